@@ -1,0 +1,9 @@
+pub mod Sizes
+pub mod State
+pub mod Answers
+pub mod Starts
+pub mod Steps
+pub mod Machine
+pub mod Array
+pub mod History
+pub mod Sessions
