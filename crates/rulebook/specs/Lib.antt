@@ -7,3 +7,5 @@ pub mod Machine
 pub mod Array
 pub mod History
 pub mod Sessions
+pub mod Tests
+pub mod Lists
