@@ -1,0 +1,16 @@
+pub mod Terms
+pub mod Search
+pub mod Appended
+pub mod Reader
+pub mod Shape
+pub mod Kept
+pub mod Moves
+pub mod Entries
+pub mod Parts
+pub mod Common
+pub mod Readings
+pub mod Sets
+pub mod Fills
+pub mod Stages
+pub mod Calls
+pub mod Tables
