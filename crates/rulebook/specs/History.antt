@@ -8,7 +8,7 @@ use lib.Dec.{eqb}
 use Rattle.rulebook.specs.declared.Stage.{Stage}
 use Rattle.rulebook.specs.declared.Reply.{Reply}
 use Rattle.rulebook.specs.Sizes.{if_then_else_, opens}
-use Rattle.rulebook.specs.State.{State, blockAt, taskAt}
+use Rattle.rulebook.specs.State.{State, blockAt, taskAt, exchanges}
 use Rattle.rulebook.specs.Answers.{stageCode, refusal, word}
 use Rattle.rulebook.specs.Starts.{Lie, opened}
 use Rattle.rulebook.specs.Machine.{Call, Open, New, Get, Set, Page, Step, Release, LookVersion, LookCell, LookLog, LookEntry, LookTask, Report, call}
@@ -122,17 +122,18 @@ abbrev pub over : ℕ → ℕ → List Value → Stage → Work → Reply → Li
 over n q l g w a =
     if ends a then record { work = w; last = g; given = l; told = word 1 a; counted = n; probes = q } ∷ [] else []
 
+-- the operation that a task was started for, as a look shows it
+abbrev pub workCode : Work → ℕ
+workCode resting = 0
+workCode (making v) = 1
+workCode (reading h i) = 2
+workCode (setting h i v) = 3
+workCode (paging h from m) = 4
+
 abbrev pub isSet : Work → Bool
-isSet resting = false
-isSet (making v) = false
-isSet (reading h i) = false
-isSet (setting h i v) = true
-isSet (paging h from m) = false
+isSet w = eqb (workCode w) 3
 
--- the stage is an exchange; it is a probe
-abbrev pub exchanges : Stage → Bool
-exchanges g = eqb (stageCode g) 7
-
+-- the step is a probe
 abbrev pub probing : Stage → Bool
 probing g = eqb (stageCode g) 6
 
@@ -154,7 +155,7 @@ stepped w t s a p =
     let l = p .given t ++ (got w a ++ paged w a) in
     record {
       store = s;
-      versions = made (s .sizes .n) (p .versions) w a ++ p .versions;
+      versions = made (p .store .sizes .n) (p .versions) w a ++ p .versions;
       works = p .works;
       counts = change (p .counts) t n;
       probes = change (p .probes) t q;

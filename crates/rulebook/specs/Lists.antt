@@ -71,6 +71,21 @@ any-none p [] d h e j = e
 any-none p (x ∷ l) d h e zero = or-neither (p x) (any p l) h .0
 any-none p (x ∷ l) d h e (suc j) = any-none p l d (or-neither (p x) (any p l) h .1) e j
 
+pub any-some : {A : Type 0} (p : A → Bool) (l : List A) (d : A) (j : ℕ) → p d ≡ false → p (getD l j d) ≡ true → any p l ≡ true
+any-some p l d j e h = by-test (any p l) (λ q. q) (λ q. absurd (true≢false (sym h ∙ any-none p l d q e j)))
+
+pub any-replicate : {A : Type 0} (p : A → Bool) (n : ℕ) (x : A) → p x ≡ false → any p (replicate n x) ≡ false
+unfolding any
+any-replicate p zero x e = refl
+any-replicate p (suc n) x e = rw e (any-replicate p n x e)
+
+-- a change to something that is not looked for
+pub any-set : {A : Type 0} (p : A → Bool) (l : List A) (f : ℕ) (y : A) → p y ≡ false → any p (set l f y) ≡ true → any p l ≡ true
+unfolding any
+any-set p [] f y e h = h
+any-set p (x ∷ l) zero y e h = by-test (p x) (λ q. rw q) (λ q. rw q (rw e at h))
+any-set p (x ∷ l) (suc f) y e h = by-test (p x) (λ q. rw q) (λ q. rw q (any-set p l f y e (rw q at h)))
+
 -- ---- lowest
 
 pub lowest-found : (p : ℕ → Bool) (d k : ℕ) → lowest p d k < k + d → p (lowest p d k) ≡ true

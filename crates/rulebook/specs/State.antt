@@ -124,32 +124,33 @@ isFree Free = true
 isFree Reserved = false
 isFree Live = false
 
--- what holds of a task in each stage: it is busy; it names a handle; it has reserved a slot; it is a set in place, past its exchange; it is
--- filling a block
+-- what holds of a task in each stage: it is busy; it names a handle; it has reserved a slot; its next step is the exchange; it is a set in
+-- place, past its exchange; it is filling a block
 pub record About : Type 0 where
   pub busy : Bool
   pub names : Bool
   pub reserves : Bool
+  pub exchanges : Bool
   pub writes : Bool
   pub fills : Bool
 
-abbrev about : Bool → Bool → Bool → Bool → Bool → About
-about a b c d e = record { busy = a; names = b; reserves = c; writes = d; fills = e }
+abbrev about : Bool → Bool → Bool → Bool → Bool → Bool → About
+about a b c d e f = record { busy = a; names = b; reserves = c; exchanges = d; writes = e; fills = f }
 
 abbrev pub aboutOf : Stage → About
-aboutOf Idle = about false false false false false
-aboutOf TakeNew = about true false true false false
-aboutOf FillNew = about true false true false true
-aboutOf (Getting r) = about true true false false false
-aboutOf Exchange = about true true true false false
-aboutOf Read = about true true true true false
-aboutOf Append = about true true true true false
-aboutOf Write = about true true true true false
-aboutOf TakeCopy = about true true true false false
-aboutOf (Copying r) = about true true true false true
-aboutOf FillCopy = about true true true false true
-aboutOf Put = about true true true false true
-aboutOf (Paging r) = about true true false false false
+aboutOf Idle = about false false false false false false
+aboutOf TakeNew = about true false true false false false
+aboutOf FillNew = about true false true false false true
+aboutOf (Getting r) = about true true false false false false
+aboutOf Exchange = about true true true true false false
+aboutOf Read = about true true true false true false
+aboutOf Append = about true true true false true false
+aboutOf Write = about true true true false true false
+aboutOf TakeCopy = about true true true false false false
+aboutOf (Copying r) = about true true true false false true
+aboutOf FillCopy = about true true true false false true
+aboutOf Put = about true true true false false true
+aboutOf (Paging r) = about true true false false false false
 
 abbrev pub busy : Stage → Bool
 busy g = aboutOf g .busy
@@ -159,6 +160,9 @@ names g = aboutOf g .names
 
 abbrev pub reserves : Stage → Bool
 reserves g = aboutOf g .reserves
+
+abbrev pub exchanges : Stage → Bool
+exchanges g = aboutOf g .exchanges
 
 abbrev pub writes : Stage → Bool
 writes g = aboutOf g .writes

@@ -22,12 +22,12 @@ use Rattle.rulebook.specs.State.{Block, fills, logAt, reserves, withCell, withL
 use Rattle.rulebook.specs.Steps.{going}
 use Rattle.rulebook.specs.Tests.{by-test}
 use Rattle.theorems.specs.Entries.{total-empty}
-use Rattle.theorems.specs.Kept.{Distinct, Holds, Reads, Stands, total}
+use Rattle.theorems.specs.Kept.{Distinct, Holds, Reads, Stands}
 use Rattle.theorems.specs.Moves.{Apart}
 use Rattle.theorems.specs.Reader.{After, Good}
 use Rattle.theorems.specs.Search.{Below, Rises}
 use Rattle.theorems.specs.Shape.{Wide}
-use Rattle.theorems.specs.Terms.{valueAt}
+use Rattle.theorems.specs.Terms.{entries, valueAt}
 
 -- a task that takes nothing is apart from all
 pub no-flags : (g : Stage) (k : Task) (h : Stage) (u : Task) → writes g ≡ false → fills g ≡ false → reserves g ≡ false → Apart g k h u
@@ -85,7 +85,7 @@ stands-filled cells room a f β inB zero-ver w h =
 
 -- a handle on a block that has become x
 pub stands-new : {cells room b n : ℕ} {x : Block} {β : ℕ → Block} → b < room → n ≤ cells → β b ≡ x → n ≤ x .version → x .version ≤ cells + 1
-    → ((i : ℕ) → Rises (logAt x i)) → ((i : ℕ) → Below (logAt x i) (x .version)) → total (x .logs) ≤ x .version → total (x .logs) ≤ cells → Distinct x → Stands cells room β b n
+    → ((i : ℕ) → Rises (logAt x i)) → ((i : ℕ) → Below (logAt x i) (x .version)) → entries (x .logs) ≤ x .version → entries (x .logs) ≤ cells → Distinct x → Stands cells room β b n
 stands-new {cells} {x} inB small e reach top rises below few few-cells distinct =
     record {
       inB = inB;
@@ -94,8 +94,8 @@ stands-new {cells} {x} inB small e reach top rises below few few-cells distinct 
       top = omega (arith, top, ap (λ (y : Block). y .version) e);
       rises = λ i. subst (λ (y : Block). Rises (logAt y i)) (sym e) (rises i);
       below = λ i. subst (λ (y : Block). Below (logAt y i) (y .version)) (sym e) (below i);
-      few = subst (λ (y : Block). total (y .logs) ≤ y .version) (sym e) few;
-      few-cells = subst (λ (y : Block). total (y .logs) ≤ cells) (sym e) few-cells;
+      few = subst (λ (y : Block). entries (y .logs) ≤ y .version) (sym e) few;
+      few-cells = subst (λ (y : Block). entries (y .logs) ≤ cells) (sym e) few-cells;
       distinct = subst Distinct (sym e) distinct;
     }
 

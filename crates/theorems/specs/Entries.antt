@@ -12,17 +12,18 @@ use Rattle.rulebook.specs.declared.Entry.{Entry}
 use Rattle.rulebook.specs.State.{Block, logAt, noEntry, withLog}
 use Rattle.rulebook.specs.Tests.{by-test}
 use Rattle.theorems.specs.Appended.{entry}
-use Rattle.theorems.specs.Kept.{Distinct, total}
-use Rattle.theorems.specs.Search.{Below, versionAt}
+use Rattle.theorems.specs.Kept.{Distinct}
+use Rattle.theorems.specs.Search.{Below}
+use Rattle.theorems.specs.Terms.{entries, versionAt}
 
-pub total-snoc : (ls : List (List Entry)) (i : ℕ) (e : Entry) → i < length ls → total (set ls i (getD ls i [] ++ (e ∷ []))) ≡ total ls + 1
-unfolding total
+pub total-snoc : (ls : List (List Entry)) (i : ℕ) (e : Entry) → i < length ls → entries (set ls i (getD ls i [] ++ (e ∷ []))) ≡ entries ls + 1
+unfolding entries
 total-snoc [] i e h = absurd (omega arith)
 total-snoc (l ∷ ls) zero e h = omega (arith, length-append l (e ∷ []))
 total-snoc (l ∷ ls) (suc i) e h = omega (arith, total-snoc ls i e (omega arith))
 
-pub total-empty : (ls : List (List Entry)) → ((i : ℕ) → getD ls i [] ≡ []) → total ls ≡ 0
-unfolding total
+pub total-empty : (ls : List (List Entry)) → ((i : ℕ) → getD ls i [] ≡ []) → entries ls ≡ 0
+unfolding entries
 total-empty [] h = refl
 total-empty (l ∷ ls) h = omega (arith, ap length (h 0), total-empty ls (λ i. h (suc i)))
 

@@ -2,7 +2,7 @@
 -- Rests on nothing.
 use Prim.Native.Nat.{_+_, _<_, _≤_, ℕ}
 use mathlib.Core.Bool.{true}
-use mathlib.Core.List.{List, [], _∷_}
+use mathlib.Core.List.{List, []}
 use mathlib.Core.Path.{_∙_, _≡_, ap, refl, subst, sym}
 use native.Mathlib.Omega.{arith}
 use lib.ListN.{getD, length}
@@ -18,13 +18,8 @@ use Rattle.rulebook.specs.Sizes.{lastSerial}
 use Rattle.rulebook.specs.State.{Block, fills, logAt, names, reserves, writes}
 use Rattle.rulebook.specs.Steps.{answer}
 use Rattle.theorems.specs.Reader.{Good}
-use Rattle.theorems.specs.Search.{Below, Rises, versionAt}
-use Rattle.theorems.specs.Terms.{valueAt, valueIn}
-
--- how many entries a block holds
-unfoldable pub total : List (List Entry) → ℕ
-total [] = 0
-total (l ∷ ls) = length l + total ls
+use Rattle.theorems.specs.Search.{Below, Rises}
+use Rattle.theorems.specs.Terms.{entries, valueAt, valueIn, versionAt}
 
 -- no version stands in two logs
 abbrev pub Distinct : Block → Type 0
@@ -38,8 +33,8 @@ pub record Stands (cells room : ℕ) (β : ℕ → Block) (b n : ℕ) : Type 0 w
   pub top : β b .version ≤ cells + 1
   pub rises : (i : ℕ) → Rises (logAt (β b) i)
   pub below : (i : ℕ) → Below (logAt (β b) i) (β b .version)
-  pub few : total (β b .logs) ≤ β b .version
-  pub few-cells : total (β b .logs) ≤ cells
+  pub few : entries (β b .logs) ≤ β b .version
+  pub few-cells : entries (β b .logs) ≤ cells
   pub distinct : Distinct (β b)
 
 -- the handle that the task names is live, and the task knows where it stands
@@ -87,8 +82,8 @@ module _ (cells handles room : ℕ) where
   OkAt (Getting r) σ β k = Named σ (k .slot) (k .block) (k .number) × Reads cells r (β (k .block)) (k .number) (k .hand)
   OkAt (Paging r) σ β k = Named σ (k .slot) (k .block) (k .number) × Reads cells r (β (k .block)) (k .number) (k .hand) × (k .hand .cell < k .until) × (k .until ≤ cells)
   OkAt Exchange σ β k = Named σ (k .slot) (k .block) (k .number) × Fresh handles σ (k .fresh) × (k .cell < cells)
-  OkAt Read σ β k = Named σ (k .slot) (k .block) (k .number) × Fresh handles σ (k .fresh) × (k .cell < cells) × Writer cells σ β (k .block) (k .number) × Early (β (k .block)) (k .number) × (total (β (k .block) .logs) ≤ k .number)
-  OkAt Append σ β k = Named σ (k .slot) (k .block) (k .number) × Fresh handles σ (k .fresh) × (k .cell < cells) × Writer cells σ β (k .block) (k .number) × Early (β (k .block)) (k .number) × (k .hand .guess ≡ getD (β (k .block) .cells) (k .cell) 0) × (total (β (k .block) .logs) ≤ k .number)
+  OkAt Read σ β k = Named σ (k .slot) (k .block) (k .number) × Fresh handles σ (k .fresh) × (k .cell < cells) × Writer cells σ β (k .block) (k .number) × Early (β (k .block)) (k .number) × (entries (β (k .block) .logs) ≤ k .number)
+  OkAt Append σ β k = Named σ (k .slot) (k .block) (k .number) × Fresh handles σ (k .fresh) × (k .cell < cells) × Writer cells σ β (k .block) (k .number) × Early (β (k .block)) (k .number) × (k .hand .guess ≡ getD (β (k .block) .cells) (k .cell) 0) × (entries (β (k .block) .logs) ≤ k .number)
   OkAt Write σ β k = Named σ (k .slot) (k .block) (k .number) × Fresh handles σ (k .fresh) × (k .cell < cells) × Writer cells σ β (k .block) (k .number) × Covered (logAt (β (k .block)) (k .cell)) (k .number) × ((i : ℕ) → (i ≡ k .cell → ⊥) → Below (logAt (β (k .block)) i) (k .number))
   OkAt TakeCopy σ β k = Named σ (k .slot) (k .block) (k .number) × Fresh handles σ (k .fresh) × (k .cell < cells) × (k .number < β (k .block) .version)
   OkAt (Copying r) σ β k = Named σ (k .slot) (k .block) (k .number) × Fresh handles σ (k .fresh) × (k .cell < cells) × Filler room σ β (k .target) × Copied (k .hand .cell) β (k .target) (k .block) (k .number) × Reads cells r (β (k .block)) (k .number) (k .hand) × (k .number < β (k .block) .version)
@@ -164,9 +159,9 @@ module _ (cells handles room : ℕ) (σ σ' : ℕ → Slot) (β β' : ℕ → Bl
   frame (Paging r) f h = (named-on _ refl f (h .0), reads-on _ r refl f (h .1), h .2, h .3)
   frame Exchange f h = (named-on _ refl f (h .0), fresh-on _ refl f (h .1), h .2)
   frame Read f h =
-      (named-on _ refl f (h .0), fresh-on _ refl f (h .1), h .2, writer-on _ refl f (h .3), subst (λ (b : Block). (i : ℕ) → Below (logAt b i) (k .number)) (sym (f .f-write refl)) (h .4), subst (λ (b : Block). total (b .logs) ≤ k .number) (sym (f .f-write refl)) (h .5))
+      (named-on _ refl f (h .0), fresh-on _ refl f (h .1), h .2, writer-on _ refl f (h .3), subst (λ (b : Block). (i : ℕ) → Below (logAt b i) (k .number)) (sym (f .f-write refl)) (h .4), subst (λ (b : Block). entries (b .logs) ≤ k .number) (sym (f .f-write refl)) (h .5))
   frame Append f h =
-      (named-on _ refl f (h .0), fresh-on _ refl f (h .1), h .2, writer-on _ refl f (h .3), subst (λ (b : Block). (i : ℕ) → Below (logAt b i) (k .number)) (sym (f .f-write refl)) (h .4), h .5 ∙ ap (λ (b : Block). getD (b .cells) (k .cell) 0) (sym (f .f-write refl)), subst (λ (b : Block). total (b .logs) ≤ k .number) (sym (f .f-write refl)) (h .6))
+      (named-on _ refl f (h .0), fresh-on _ refl f (h .1), h .2, writer-on _ refl f (h .3), subst (λ (b : Block). (i : ℕ) → Below (logAt b i) (k .number)) (sym (f .f-write refl)) (h .4), h .5 ∙ ap (λ (b : Block). getD (b .cells) (k .cell) 0) (sym (f .f-write refl)), subst (λ (b : Block). entries (b .logs) ≤ k .number) (sym (f .f-write refl)) (h .6))
   frame Write f h =
       (named-on _ refl f (h .0), fresh-on _ refl f (h .1), h .2, writer-on _ refl f (h .3), subst (λ (b : Block). Covered (logAt b (k .cell)) (k .number)) (sym (f .f-write refl)) (h .4), subst (λ (b : Block). (i : ℕ) → (i ≡ k .cell → ⊥) → Below (logAt b i) (k .number)) (sym (f .f-write refl)) (h .5))
   frame TakeCopy f h = (named-on _ refl f (h .0), fresh-on _ refl f (h .1), h .2, omega (arith, h .3, f .f-keep refl .newer))

@@ -14,3 +14,12 @@ pub mod Fills
 pub mod Stages
 pub mod Calls
 pub mod Tables
+pub mod Digits
+pub mod Budget
+pub mod Spend
+pub mod Told
+pub mod ToldNew
+pub mod Fair
+pub mod FairSteps
+pub mod Notes
+pub mod NotesCalls

@@ -18,10 +18,10 @@ use Rattle.rulebook.specs.Sizes.{room}
 use Rattle.rulebook.specs.State.{Block, State, blockAt, fills, logAt, names, noEntry, reserves, slotAt, taskAt, withCell, withLog, withVersion, writes}
 use Rattle.rulebook.specs.Tests.{by-test}
 use Rattle.theorems.specs.Appended.{entry, value-snoc}
-use Rattle.theorems.specs.Kept.{Covered, Distinct, Frame, Keeps, Named, OkAt, Stands, frame, total}
+use Rattle.theorems.specs.Kept.{Covered, Distinct, Frame, Keeps, Named, OkAt, Stands, frame}
 use Rattle.theorems.specs.Reader.{Good, good-append}
-use Rattle.theorems.specs.Search.{Below, Rises, versionAt}
-use Rattle.theorems.specs.Terms.{valueAt, valueIn}
+use Rattle.theorems.specs.Search.{Below, Rises}
+use Rattle.theorems.specs.Terms.{entries, valueAt, valueIn, versionAt}
 
 -- two tasks that are at stages g and h do not meet
 pub record Apart (g : Stage) (k : Task) (h : Stage) (u : Task) : Type 0 where
@@ -246,8 +246,8 @@ module _ {cells room : ℕ} {β β' : ℕ → Block} where
         top = rw e (s .top);
         rises = λ i. subst (λ (x : Block). Rises (logAt x i)) (sym e) (s .rises i);
         below = λ i. subst (λ (x : Block). Below (logAt x i) (x .version)) (sym e) (s .below i);
-        few = subst (λ (x : Block). total (x .logs) ≤ x .version) (sym e) (s .few);
-        few-cells = subst (λ (x : Block). total (x .logs) ≤ cells) (sym e) (s .few-cells);
+        few = subst (λ (x : Block). entries (x .logs) ≤ x .version) (sym e) (s .few);
+        few-cells = subst (λ (x : Block). entries (x .logs) ≤ cells) (sym e) (s .few-cells);
         distinct = subst Distinct (sym e) (s .distinct);
       }
 

@@ -15,12 +15,12 @@ use Rattle.rulebook.specs.declared.Stage.the-variants.{Append, Copying, Exchang
 use Rattle.rulebook.specs.declared.Status.{Status}
 use Rattle.rulebook.specs.declared.Status.the-variants.{Live}
 use Rattle.rulebook.specs.declared.Task.{Task}
-use Rattle.rulebook.specs.Lists.{any-none, lowest-found}
+use Rattle.rulebook.specs.Lists.{any-none, any-some, lowest-found}
 use Rattle.rulebook.specs.Sizes.{room}
 use Rattle.rulebook.specs.State.{Block, State, busy, filling, fills, freeBlock, freed, held, idle, isLive, names, reserves, slotAt, stood, taskAt, writes}
 use Rattle.rulebook.specs.Tests.{or-neither}
 use Rattle.theorems.specs.Kept.{Filler, Fresh, Named, OkAt, Writer}
-use Rattle.theorems.specs.Shape.{Every, more, none}
+use Rattle.theorems.specs.Terms.{Every, more, none}
 
 -- ---- parts of a task's condition
 
@@ -124,3 +124,9 @@ module _ (s : State) (b : ℕ) (h : held s b ≡ false) where
   no-filler u l o =
       let p = any-none (λ (x : Task). fills (x .stage) && eqb (x .target) b) (s .tasks) idle (or-neither (stood s b) _ h .1) refl u in
       true≢false (sym (ap₂ (λ (x : Bool) (y : Bool). x && y) l (eq-eqb _ b o)) ∙ p)
+
+-- a live handle stands where it stands
+pub stood-by : (s : State) (j b : ℕ) → slotAt s j .status ≡ Live → slotAt s j .block ≡ b → stood s b ≡ true
+unfolding stood
+stood-by s j b l o =
+    any-some (λ (x : Slot). isLive (x .status) && eqb (x .block) b) (s .slots) (freed 0) j refl (ap₂ (λ (x : Status) (y : Bool). isLive x && y) l (eq-eqb _ b o))

@@ -17,8 +17,8 @@ use Rattle.rulebook.specs.State.{Block, logAt, noEntry}
 use Rattle.rulebook.specs.Steps.{Progress, answer, getStep, going, middle, probed, searching, settled}
 use Rattle.rulebook.specs.Tests.{if-case}
 use Rattle.theorems.specs.Appended.{entry, value-snoc}
-use Rattle.theorems.specs.Search.{Below, Rises, Sought, sought-end, sought-probe, sought-start, value-none, versionAt}
-use Rattle.theorems.specs.Terms.{valueAt, valueIn}
+use Rattle.theorems.specs.Search.{Below, Rises, Sought, sought-end, sought-probe, sought-start, value-none}
+use Rattle.theorems.specs.Terms.{valueAt, valueIn, versionAt}
 
 -- the search in the log's first m entries has not ended, and will give x
 pub record Searching (l : List Entry) (n : ℕ) (w : Hand) (x : ℕ) : Type 0 where

@@ -22,8 +22,8 @@ use Rattle.theorems.specs.Kept.{Copied, Fresh, Keeps, Named, OkAt, Reads
 use Rattle.theorems.specs.Moves.{Apart, Carries, Goes, InvS, Same, apart-keep, frame-block, frame-same, inv-move, named-stands, owned-on, same-refl, stands-other}
 use Rattle.theorems.specs.Parts.{every-at, ok-filler, ok-fresh, ok-named, ok-writer}
 use Rattle.theorems.specs.Reader.{After, get-step}
-use Rattle.theorems.specs.Shape.{Shape, Wide, more}
-use Rattle.theorems.specs.Terms.{valueAt}
+use Rattle.theorems.specs.Shape.{Shape, Wide}
+use Rattle.theorems.specs.Terms.{more, valueAt}
 
 module _ (s : State) (sh : Shape s) (iv : InvS s) (t : ℕ) (inT : t < s .sizes .t) where
   pub in-tasks : t < length (s .tasks)

@@ -14,10 +14,7 @@ use Rattle.rulebook.specs.declared.Hand.{Hand}
 use Rattle.rulebook.specs.State.{entryAt}
 use Rattle.rulebook.specs.Steps.{answer, kept, lowered, middle, probed, raised, searching}
 use Rattle.rulebook.specs.Tests.{by-test}
-use Rattle.theorems.specs.Terms.{valueIn}
-
-abbrev pub versionAt : List Entry → ℕ → ℕ
-versionAt l j = entryAt l j .version
+use Rattle.theorems.specs.Terms.{valueIn, versionAt}
 
 abbrev pub oldAt : List Entry → ℕ → ℕ
 oldAt l j = entryAt l j .old

@@ -22,11 +22,12 @@ use Rattle.rulebook.specs.Tests.{by-test, if-case}
 use Rattle.theorems.specs.Appended.{below-snoc, entry, value-snoc}
 use Rattle.theorems.specs.Common.{live≢reserved, log-cases, no-flags, stands-new}
 use Rattle.theorems.specs.Entries.{distinct-snoc, total-snoc}
-use Rattle.theorems.specs.Kept.{Covered, Early, Fresh, Keeps, Named, OkAt, Stands, Writer, total}
+use Rattle.theorems.specs.Kept.{Covered, Early, Fresh, Keeps, Named, OkAt, Stands, Writer}
 use Rattle.theorems.specs.Moves.{Goes, InvS, apart-keep, frame-block, frame-slot, inv-move, keeps-append, keeps-ver, keeps-write, owned-ended, rises-snoc, stands-other, unique-new}
 use Rattle.theorems.specs.Readings.{Ok, Others, block-too, in-tasks, my-apart, my-ok, my-stands, named-no-fill, on-block, other-block, quiet, same-block, see-block, u-keeps, u-named, u-writer, wide-at}
 use Rattle.theorems.specs.Search.{Below, Rises}
 use Rattle.theorems.specs.Shape.{Shape}
+use Rattle.theorems.specs.Terms.{entries}
 
 module _ (s : State) (sh : Shape s) (iv : InvS s) (t : ℕ) (inT : t < s .sizes .t) where
   -- ---- a set in place
@@ -62,7 +63,7 @@ module _ (s : State) (sh : Shape s) (iv : InvS s) (t : ℕ) (inT : t < s .sizes 
       if-case (λ (x : Result). Goes s (x .0)) (eqb (hereOf s (taskAt s t) .version) (taskAt s t .number))
       (λ t1. let v = eqb-true _ (taskAt s t .number) t1 in
       if-case (λ (k : Task). Goes s (withTask (withBlock s (taskAt s t .block) (withVersion (hereOf s (taskAt s t)) (taskAt s t .number + 1))) t k)) (ltb (taskAt s t .number) (s .sizes .n))
-      (λ t2. first-set Read (taskAt s t .hand) refl h v (h .0, h .1, h .2, writer v (ltb-true (taskAt s t .number) (s .sizes .n) t2), early v, subst (λ (x : Block). total (x .logs) ≤ taskAt s t .number) (sym same) (omega (arith, st .few, v)))
+      (λ t2. first-set Read (taskAt s t .hand) refl h v (h .0, h .1, h .2, writer v (ltb-true (taskAt s t .number) (s .sizes .n) t2), early v, subst (λ (x : Block). entries (x .logs) ≤ taskAt s t .number) (sym same) (omega (arith, st .few, v)))
       (λ u d. record { a-write = λ p q o. leaf-no-writer (h .0) v u q (sym o); a-fill = λ p. absurd (false≢true p); a-fresh = λ p. my-apart s sh iv t inT Exchange e u d .a-fresh refl }))
       (λ t2. first-set TakeCopy (handOf 0) refl h v (h .0, h .1, h .2, subst (λ (x : Block). taskAt s t .number < x .version) (sym same) (omega arith)) (copies e)))
       (λ t1. quiet s sh iv t inT _ (λ _. (refl, refl)) (h .0, h .1, h .2, omega (arith, st .reach, eqb-false (hereOf s (taskAt s t) .version) (taskAt s t .number) t1)) (copies e))
@@ -107,7 +108,7 @@ module _ (s : State) (sh : Shape s) (iv : InvS s) (t : ℕ) (inT : t < s .sizes 
       stands-new (q .inB) (q .small) (same-block s sh iv t inT _ b' (st .inB)) (q .reach) (q .top)
       (log-cases Rises here (taskAt s t .cell) new in-logs (rises-snoc (logAt here (taskAt s t .cell)) (taskAt s t .number) (taskAt s t .hand .guess) (q .rises _) (h .4 _)) (q .rises))
       (log-cases (λ (x : List Entry). Below x (here .version)) here (taskAt s t .cell) new in-logs (rw (h .3 .raised) (below-snoc (logAt here (taskAt s t .cell)) (taskAt s t .number) (taskAt s t .hand .guess) (h .4 _))) (q .below))
-      (omega (arith, counted-entries, h .6, h .3 .raised)) (omega (arith, counted-entries, h .6, h .3 .room)) (distinct-snoc here (taskAt s t .cell) (taskAt s t .number) (taskAt s t .hand .guess) in-logs (h .4) (q .distinct)))
+      (omega (arith, one-more, h .6, h .3 .raised)) (omega (arith, one-more, h .6, h .3 .room)) (distinct-snoc here (taskAt s t .cell) (taskAt s t .number) (taskAt s t .hand .guess) in-logs (h .4) (q .distinct)))
       (h .0, h .1, h .2, record { raised = ap (λ (x : Block). x .version) same ∙ h .3 .raised; room = h .3 .room; oldest = h .3 .oldest }, covered, late)
       (λ j l o. subst (λ (g : ℕ). Keeps (slotAt s j .number) here (withLog here (taskAt s t .cell) (logAt here (taskAt s t .cell) ++ (entry (taskAt s t .number) g ∷ [])))) (sym (h .5))
       (keeps-append (slotAt s j .number) (taskAt s t .number) (taskAt s t .cell) here (h .3 .oldest j l o) in-logs))
@@ -136,8 +137,8 @@ module _ (s : State) (sh : Shape s) (iv : InvS s) (t : ℕ) (inT : t < s .sizes 
       same : blockAt (withBlock s (taskAt s t .block) b') (taskAt s t .block) ≡ b'
       same = same-block s sh iv t inT (taskAt s t .block) b' (st .inB)
 
-      counted-entries : total (set (here .logs) (taskAt s t .cell) new) ≡ total (here .logs) + 1
-      counted-entries = total-snoc (here .logs) (taskAt s t .cell) (entry (taskAt s t .number) (taskAt s t .hand .guess)) in-logs
+      one-more : entries (set (here .logs) (taskAt s t .cell) new) ≡ entries (here .logs) + 1
+      one-more = total-snoc (here .logs) (taskAt s t .cell) (entry (taskAt s t .number) (taskAt s t .hand .guess)) in-logs
 
       covered : Covered (logAt (blockAt (withBlock s (taskAt s t .block) b') (taskAt s t .block)) (taskAt s t .cell)) (taskAt s t .number)
       covered =

@@ -21,10 +21,7 @@ use Rattle.rulebook.specs.Starts.{Lie, noSlot, opened, opening, reserve, startG
 use Rattle.rulebook.specs.State.{Block, Result, State, blockAt, freeBlock, freeSlot, idle, inUse, listTo, liveHandle, logAt, noBlock, withBlock, withCell, withLog, withSlot, withTask, withVersion}
 use Rattle.rulebook.specs.Steps.{Progress, answer, exchanged, filled, finished, going, gotCopy, gotGet, gotPage, hereOf, noRoom, settled, step, stepAt, taken}
 use Rattle.rulebook.specs.Tests.{and-both, if-case}
-
-pub data Every {A : Type 0} (P : A → Type 0) : List A → Type 0 where
-  none : Every P []
-  more : {x : A} {l : List A} → P x → Every P l → Every P (x ∷ l)
+use Rattle.theorems.specs.Terms.{Every, more, none}
 
 module _ {A : Type 0} {P : A → Type 0} where
   -- one element changed by a function that keeps P

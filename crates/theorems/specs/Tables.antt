@@ -1,4 +1,4 @@
--- What the tasks answer, and the tables of the new handles.
+-- The tables of the new handles: what a set or a new has made is the functional array's.
 -- Rests on nothing.
 use Prim.Native.Nat.{_+_, _<_, ℕ}
 use mathlib.Core.List.{List}
@@ -9,32 +9,18 @@ use lib.ListN.{length}
 use lib.Seq.{getD-set-other, getD-set-same}
 use borrow.Author.Tests.{eqb-false, eqb-true}
 use Rattle.rulebook.specs.declared.Entry.{Entry}
-use Rattle.rulebook.specs.declared.Reading.{Reading}
-use Rattle.rulebook.specs.declared.Reply.the-variants.{Got, Quiet}
-use Rattle.rulebook.specs.declared.Stage.the-variants.{FillNew, Getting, Put, Write}
-use Rattle.rulebook.specs.declared.Task.{Task}
+use Rattle.rulebook.specs.declared.Stage.the-variants.{FillNew, Put, Write}
 use Rattle.rulebook.specs.Sizes.{if_then_else_}
-use Rattle.rulebook.specs.State.{Block, Result, State, blockAt, logAt, slotAt, taskAt, withCell, withSlot, withTask}
-use Rattle.rulebook.specs.Steps.{Progress, counted, filled, finished, going, gotGet, hereOf, settled, stepAt}
+use Rattle.rulebook.specs.State.{Block, State, blockAt, logAt, slotAt, taskAt, withCell, withSlot, withTask}
+use Rattle.rulebook.specs.Steps.{counted, filled, finished, hereOf, stepAt}
 use Rattle.rulebook.specs.Tests.{by-test}
 use Rattle.theorems.specs.Common.{holds-put, holds-write}
 use Rattle.theorems.specs.Kept.{Holds, OkAt, Stands}
 use Rattle.theorems.specs.Moves.{InvS}
-use Rattle.theorems.specs.Reader.{After}
-use Rattle.theorems.specs.Readings.{my-ok, my-stands, read-on, same-block, wide-at}
+use Rattle.theorems.specs.Readings.{my-ok, my-stands, same-block, wide-at}
 use Rattle.theorems.specs.Search.{Below, value-none}
 use Rattle.theorems.specs.Shape.{Shape}
 use Rattle.theorems.specs.Terms.{valueAt, valueIn}
-
--- what a get says in a step: nothing, or the value v after n steps
-pub data Says (v n : ℕ) : Result → Type 0 where
-  not-yet : {s : State} → Says v n (s, Quiet)
-  ends : {s : State} {i : ℕ} → Says v n (s, Got n i v)
-
-says : (q : Progress) (s : State) (t i x : ℕ) (k : Task) (l : List Entry) (n : ℕ) → After l n i x q → Says x (k .steps) (gotGet q s t k)
-unfolding gotGet
-says (going r w) s t i x k l n a = not-yet
-says (settled w) s t i x k l n a = rw (a .0) ends
 
 -- a log that is below n says nothing to a handle of number n
 below-more : (l : List Entry) (n : ℕ) → Below l n → Below l (n + 1)
@@ -56,14 +42,6 @@ unfolding valueAt valueIn
 held-value b c f j q h = rw (h j q .0) (h j q .1)
 
 module _ (s : State) (sh : Shape s) (iv : InvS s) (t : ℕ) (inT : t < s .sizes .t) where
-  -- a get answers what its handle sees
-  pub get-answers : (r : Reading) → taskAt s t .stage ≡ Getting r
-      → Says (valueAt (hereOf s (taskAt s t)) (taskAt s t .number) (taskAt s t .hand .cell)) (taskAt s t .steps + 1) (stepAt (Getting r) s t (counted (taskAt s t)))
-  unfolding stepAt counted
-  get-answers r e =
-      let h = my-ok s sh iv t inT (Getting r) e in
-      says _ s t _ _ _ _ _ (read-on s sh iv t inT r (h .0) (h .1))
-
   -- what the handle of a set is to see
   abbrev pub Changed : ℕ → ℕ
   Changed j = if eqb j (taskAt s t .cell) then taskAt s t .value else valueAt (hereOf s (taskAt s t)) (taskAt s t .number) j
