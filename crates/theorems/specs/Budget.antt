@@ -134,6 +134,12 @@ rest-grows n FillNew k b b' h = zero-le
 abbrev pub toWrite : ℕ → Hand → Block → ℕ
 toWrite n w b = 4 * (n - (w .cell + 1)) + 2 + (n - passed b (w .cell + 1))
 
+pub copy-some : (n : ℕ) (r : Reading) (w : Hand) (b : Block) → Unsettled r w → 0 < copyLeft n r w b
+copy-some n Guess w b o = omega arith
+copy-some n Version w b o = omega arith
+copy-some n Length w b o = omega arith
+copy-some n Probe w b o = omega arith
+
 abbrev pub CopyLess : ℕ → Block → ℕ → Progress → Type 0
 CopyLess n b x (going r w) = copyLeft n r w b < x
 CopyLess n b x (settled w) = toWrite n w b < x

@@ -1,4 +1,5 @@
 pub mod Terms
+pub mod Demands
 pub mod Search
 pub mod Appended
 pub mod Reader
@@ -23,3 +24,11 @@ pub mod Fair
 pub mod FairSteps
 pub mod Notes
 pub mod NotesCalls
+pub mod Joined
+pub mod Proofs
+pub mod Full
+pub mod Causes
+pub mod SameSizes
+pub mod Follows
+pub mod Validity
+pub mod Progress

@@ -261,7 +261,7 @@ notes-open p np n h t words lie =
 notes-look : (p : Past) → Notes p → (a : Reply) → Notes (if accepted a then p else p)
 notes-look p np a = if-case Notes (accepted a) (λ e. np) (λ e. np)
 
-notes-next : (c : Call) (p : Past) → Notes p → Notes (next c p)
+pub notes-next : (c : Call) (p : Past) → Notes p → Notes (next c p)
 unfolding next call noted
 notes-next (Open n h t words lie) p np = notes-open p np n h t words lie
 notes-next (New t v) p np = notes-new p np t v (shape-call (New t v) _ (np .told .shape)) (inv-new _ (np .told .shape) (np .told .inv) t v)

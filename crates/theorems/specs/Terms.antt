@@ -136,25 +136,26 @@ Spent n FillCopy x q = ⊥
 Spent n Put x q = x ≡ 3 + 4 * n + q
 Spent n (Paging r) x q = Unit
 
+-- the call is a step of task t
+abbrev pub isStep : ℕ → Call → Bool
+isStep t (Open n h u words lie) = false
+isStep t (New u v) = false
+isStep t (Get u h i) = false
+isStep t (Set u h i v) = false
+isStep t (Page u h from m) = false
+isStep t (Step u) = eqb t u
+isStep t (Release h) = false
+isStep t (LookVersion b) = false
+isStep t (LookCell b i) = false
+isStep t (LookLog b i) = false
+isStep t (LookEntry b i j) = false
+isStep t (LookTask u) = false
+isStep t Report = false
+
 -- how many steps of task t a list of calls has
 unfoldable pub stepsIn : ℕ → List Call → ℕ
 stepsIn t [] = 0
-stepsIn t (c ∷ cs) = one (isStep c) + stepsIn t cs
-  where
-    isStep : Call → Bool
-    isStep (Open n h u words lie) = false
-    isStep (New u v) = false
-    isStep (Get u h i) = false
-    isStep (Set u h i v) = false
-    isStep (Page u h from m) = false
-    isStep (Step u) = eqb u t
-    isStep (Release h) = false
-    isStep (LookVersion b) = false
-    isStep (LookCell b i) = false
-    isStep (LookLog b i) = false
-    isStep (LookEntry b i j) = false
-    isStep (LookTask u) = false
-    isStep Report = false
+stepsIn t (c ∷ cs) = one (isStep t c) + stepsIn t cs
 
 -- after some first part of the calls cs from p, task t is idle
 pub data Ends (t : ℕ) : Past → List Call → Type 0 where
