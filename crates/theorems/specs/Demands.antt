@@ -10,15 +10,15 @@ use Rattle.rulebook.specs.Machine.{Call, call}
 use Rattle.rulebook.specs.Starts.{opening}
 use Rattle.rulebook.specs.State.{State, busy, liveHandle, taskAt}
 use Rattle.rulebook.specs.Steps.{step}
-use Rattle.theorems.specs.Causes.{fits-call}
-use Rattle.theorems.specs.Follows.{kept-proof, store-proof}
-use Rattle.theorems.specs.Full.{ten-proof}
-use Rattle.theorems.specs.Notes.{Notes}
-use Rattle.theorems.specs.NotesCalls.{notes-past}
-use Rattle.theorems.specs.Progress.{not-spent, progress-on}
-use Rattle.theorems.specs.Proofs.{join-any-proof, join-proof, numbers-proof, order-proof, price-proof, reads-proof, sets-proof, spent-proof, steps-proof, tables-proof}
+use Rattle.theorems.specs.Notes.Calls.{notes-past}
+use Rattle.theorems.specs.Notes.Step.{Notes}
+use Rattle.theorems.specs.Proofs.Causes.{fits-call}
+use Rattle.theorems.specs.Proofs.Follows.{kept-proof, store-proof}
+use Rattle.theorems.specs.Proofs.Progress.{not-spent, progress-on}
+use Rattle.theorems.specs.Proofs.Reads.{join-any-proof, join-proof, numbers-proof, order-proof, price-proof, reads-proof, sets-proof, spent-proof, steps-proof, tables-proof}
+use Rattle.theorems.specs.Proofs.Ten.{ten-proof}
+use Rattle.theorems.specs.Proofs.Valid.{valid-proof}
 use Rattle.theorems.specs.Terms.{Ends, Every, Harmless, HasGiven, In, IsRead, Once, Spent, Valid, byCell, causes, cellsOf, due, onVersion, price, shown, stepsIn, upTo, valuesOf}
-use Rattle.theorems.specs.Validity.{valid-proof}
 
 -- s is a state that an accepted open leads to, cs are the calls made since; p is what has happened, p .store the machine's state
 module _ (s : State) (opening : IsOpened s) (cs : List Call) where
