@@ -13,6 +13,8 @@ use Rattle.rulebook.specs.declared.Reading.the-variants.{Guess, Version,
 use Rattle.rulebook.specs.declared.Stage.{Stage}
 use Rattle.rulebook.specs.declared.Stage.the-variants.{Idle, TakeNew, FillNew, Getting, Exchange, Read, Append, Write, TakeCopy, Copying, FillCopy, Put, Paging}
 use Rattle.rulebook.specs.declared.Hand.{Hand}
+use Rattle.rulebook.specs.declared.Progress.{Progress}
+use Rattle.rulebook.specs.declared.Progress.the-variants.{Going, Settled}
 use Rattle.rulebook.specs.declared.Task.{Task}
 use Rattle.rulebook.specs.declared.Reply.the-variants.{Refused, Full, Quiet, Handed, HandedLast, Got, Made}
 use Rattle.rulebook.specs.Sizes.{if_then_else_, publicNumber}
@@ -33,11 +35,6 @@ unfoldable pub counted : Task → Task
 counted k = record { stage = k .stage; slot = k .slot; block = k .block; number = k .number; cell = k .cell; value = k .value; until = k .until; fresh = k .fresh; target = k .target; hand = k .hand; steps = k .steps + 1 }
 
 -- ---- get: one step
-
--- the get goes on, or has its answer
-pub data Progress : Type 0 where
-  going : Reading → Hand → Progress
-  settled : Hand → Progress
 
 -- the answer is the candidate, or the guess if there is none
 abbrev pub answer : Hand → ℕ
@@ -75,7 +72,7 @@ probed l L w = probedAt (middle w) (entryAt l (middle w)) L w
 
 -- the first step reads the cell, the guess; the second reads V, and if V = L the guess is the answer
 abbrev pub firstTwo : Block → ℕ → Hand → Progress × Progress
-firstTwo b L w = (going Version (guessed w (cellAt b (w .cell))), if eqb (b .version) L then settled w else going Length w)
+firstTwo b L w = (Going Version (guessed w (cellAt b (w .cell))), if eqb (b .version) L then Settled w else Going Length w)
 
 -- a step of a get on block b for number L
 unfoldable pub getStep : Reading → Block → ℕ → Hand → Progress
@@ -83,10 +80,10 @@ getStep Guess b L w = firstTwo b L w .0
 getStep Version b L w = firstTwo b L w .1
 getStep Length b L w =
     let m = length (logAt b (w .cell)) in
-    if eqb m 0 then settled w else going Probe (searching w m)
+    if eqb m 0 then Settled w else Going Probe (searching w m)
 getStep Probe b L w =
     let q = probed (logAt b (w .cell)) L w in
-    if eqb (q .lo) (q .hi) then settled q else going Probe q
+    if eqb (q .lo) (q .hi) then Settled q else Going Probe q
 
 -- ---- how a task ends
 
@@ -116,19 +113,19 @@ filled s k i v = withBlock s (k .target) (withLog (withCell (blockAt s (k .targe
 -- ---- what a get's progress means for a get, a page, and a copy's reading
 
 unfoldable pub gotGet : Progress → State → ℕ → Task → Result
-gotGet (going r w) s t k = (withTask s t (moved k (Getting r) w), Quiet)
-gotGet (settled w) s t k = (withTask s t idle, Got (k .steps) (w .cell) (answer w))
+gotGet (Going r w) s t k = (withTask s t (moved k (Getting r) w), Quiet)
+gotGet (Settled w) s t k = (withTask s t idle, Got (k .steps) (w .cell) (answer w))
 
 unfoldable pub gotPage : Progress → State → ℕ → Task → Result
-gotPage (going r w) s t k = (withTask s t (moved k (Paging r) w), Quiet)
-gotPage (settled w) s t k =
+gotPage (Going r w) s t k = (withTask s t (moved k (Paging r) w), Quiet)
+gotPage (Settled w) s t k =
     if eqb (w .cell + 1) (k .until)
     then (withTask s t idle, HandedLast (k .steps) (w .cell) (answer w))
     else (withTask s t (moved k (Paging Guess) (handOf (w .cell + 1))), Handed (w .cell) (answer w))
 
 unfoldable pub gotCopy : Progress → State → ℕ → Task → Result
-gotCopy (going r w) s t k = (withTask s t (moved k (Copying r) w), Quiet)
-gotCopy (settled w) s t k = (withTask s t (moved k FillCopy w), Quiet)
+gotCopy (Going r w) s t k = (withTask s t (moved k (Copying r) w), Quiet)
+gotCopy (Settled w) s t k = (withTask s t (moved k FillCopy w), Quiet)
 
 -- ---- set
 

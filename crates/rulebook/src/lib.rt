@@ -68,6 +68,12 @@ pub struct Hand {
     pub version: u32,
 }
 
+// A get after a step: it goes on with another reading, or it has its answer.
+pub enum Progress {
+    Going(Reading, Hand),
+    Settled(Hand),
+}
+
 // A task. Of the handle that it names: the slot, and the block and number that it took at its start.
 // cell, value: a set's i and v. until: the cell after a page's last. fresh: the slot that it reserved. target: the block that it fills.
 pub struct Task {

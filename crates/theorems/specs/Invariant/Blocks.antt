@@ -12,6 +12,7 @@ use lib.Seq.{getD-set-other, getD-set-same}
 use borrow.Author.Tests.{eqb-false, eqb-true, ltb-false, ltb-true}
 use Rattle.rulebook.specs.declared.Entry.{Entry}
 use Rattle.rulebook.specs.declared.Hand.{Hand}
+use Rattle.rulebook.specs.declared.Progress.the-variants.{Going}
 use Rattle.rulebook.specs.declared.Reading.{Reading}
 use Rattle.rulebook.specs.declared.Slot.{Slot}
 use Rattle.rulebook.specs.declared.Stage.{Stage}
@@ -19,7 +20,6 @@ use Rattle.rulebook.specs.declared.Status.the-variants.{Free, Live, Reserved}
 use Rattle.rulebook.specs.declared.Task.{Task}
 use Rattle.rulebook.specs.Sizes.{if_then_else_, room}
 use Rattle.rulebook.specs.State.{Block, fills, logAt, reserves, withCell, withLog, writes}
-use Rattle.rulebook.specs.Steps.{going}
 use Rattle.rulebook.specs.Tests.{by-test}
 use Rattle.theorems.specs.Invariant.Entries.{total-empty}
 use Rattle.theorems.specs.Invariant.Moves.{Apart}
@@ -39,7 +39,7 @@ no-flags g k h u w f r =
     }
 
 -- what is left of a get after its step, at the cell that it now has in hand
-pub reads-after : (cells n i : ℕ) (b : Block) (r : Reading) (w : Hand) → i < cells → After (logAt b i) n i (valueAt b n i) (going r w) → Reads cells r b n w
+pub reads-after : (cells n i : ℕ) (b : Block) (r : Reading) (w : Hand) → i < cells → After (logAt b i) n i (valueAt b n i) (Going r w) → Reads cells r b n w
 reads-after cells n i b r w h a =
     record {
       inN = omega (arith, a .1);

@@ -8,6 +8,8 @@ use lib.Dec.{eqb}
 use lib.ListN.{length}
 use lib.Seq.{getD-set-other, getD-set-same}
 use borrow.Author.Tests.{eqb-false, eqb-true}
+use Rattle.rulebook.specs.declared.Progress.{Progress}
+use Rattle.rulebook.specs.declared.Progress.the-variants.{Going, Settled}
 use Rattle.rulebook.specs.declared.Reading.{Reading}
 use Rattle.rulebook.specs.declared.Reading.the-variants.{Guess}
 use Rattle.rulebook.specs.declared.Stage.{Stage}
@@ -15,7 +17,7 @@ use Rattle.rulebook.specs.declared.Stage.the-variants.{Copying, FillCopy, Getti
 use Rattle.rulebook.specs.declared.Status.the-variants.{Live}
 use Rattle.rulebook.specs.declared.Task.{Task}
 use Rattle.rulebook.specs.State.{Block, Result, State, blockAt, fills, idle, logAt, names, noBlock, reserves, slotAt, taskAt, withBlock, withTask, writes}
-use Rattle.rulebook.specs.Steps.{Progress, counted, getStep, going, gotCopy, gotGet, gotPage, hereOf, moved, settled}
+use Rattle.rulebook.specs.Steps.{counted, getStep, gotCopy, gotGet, gotPage, hereOf, moved}
 use Rattle.rulebook.specs.Tests.{by-test, if-case}
 use Rattle.theorems.specs.Invariant.Blocks.{no-flags, reads-after}
 use Rattle.theorems.specs.Invariant.Facts.{every-at, ok-filler, ok-fresh, ok-named, ok-writer}
@@ -149,17 +151,17 @@ module _ (s : State) (sh : Shape s) (iv : InvS s) (t : ℕ) (inT : t < s .sizes 
       → After (logAt (hereOf s (taskAt s t)) (taskAt s t .hand .cell)) (taskAt s t .number) (taskAt s t .hand .cell) (valueAt (hereOf s (taskAt s t)) (taskAt s t .number) (taskAt s t .hand .cell)) q
       → Goes s (gotGet q s t (counted (taskAt s t)) .0)
   unfolding gotGet moved counted
-  got-get (going r w) r' e inN named a =
+  got-get (Going r w) r' e inN named a =
       quiet _ (carries-none (Getting r') e refl) (named, reads-after _ _ _ _ r w inN a) (λ u d. no-flags (Getting r) _ _ _ refl refl refl)
-  got-get (settled w) r' e inN named a = quiet idle (carries-none (Getting r') e refl) tt (λ u d. no-flags Idle _ _ _ refl refl refl)
+  got-get (Settled w) r' e inN named a = quiet idle (carries-none (Getting r') e refl) tt (λ u d. no-flags Idle _ _ _ refl refl refl)
 
   pub got-page : (q : Progress) (r : Reading) → taskAt s t .stage ≡ Paging r → Ok (Paging Guess) (taskAt s t) → taskAt s t .hand .cell < s .sizes .n
       → After (logAt (hereOf s (taskAt s t)) (taskAt s t .hand .cell)) (taskAt s t .number) (taskAt s t .hand .cell) (valueAt (hereOf s (taskAt s t)) (taskAt s t .number) (taskAt s t .hand .cell)) q
       → Goes s (gotPage q s t (counted (taskAt s t)) .0)
   unfolding gotPage moved counted
-  got-page (going r w) r' e h inN a =
+  got-page (Going r w) r' e h inN a =
       quiet _ (carries-none (Paging r') e refl) (h .0, reads-after _ _ _ _ r w inN a, omega (arith, a .1, h .2), h .3) (λ u d. no-flags (Paging r) _ _ _ refl refl refl)
-  got-page (settled w) r' e h inN a =
+  got-page (Settled w) r' e h inN a =
       if-case (λ (x : Result). Goes s (x .0)) (eqb (w .cell + 1) (taskAt s t .until))
       (λ _. quiet idle (carries-none (Paging r') e refl) tt (λ u d. no-flags Idle _ _ _ refl refl refl))
       (λ p. let more : w .cell + 1 < taskAt s t .until = omega (arith, eqb-false _ (taskAt s t .until) p, a .1, h .2) in
@@ -169,11 +171,11 @@ module _ (s : State) (sh : Shape s) (iv : InvS s) (t : ℕ) (inT : t < s .sizes 
       → After (logAt (hereOf s (taskAt s t)) (taskAt s t .hand .cell)) (taskAt s t .number) (taskAt s t .hand .cell) (valueAt (hereOf s (taskAt s t)) (taskAt s t .number) (taskAt s t .hand .cell)) q
       → Goes s (gotCopy q s t (counted (taskAt s t)) .0)
   unfolding gotCopy moved counted
-  got-copy (going r w) h o inN a =
+  got-copy (Going r w) h o inN a =
       let k = h Guess (record { inN = inN; good = tt }) in
       quiet _ (λ _. (refl, refl)) (k .0, k .1, k .2, k .3, subst (λ (c : ℕ). Copied c (blockAt s) (taskAt s t .target) (taskAt s t .block) (taskAt s t .number)) (sym (a .1)) (k .4), reads-after _ _ _ _ r w inN a, k .6)
       (λ u d. apart-keep (Copying Guess) (Copying r) _ (taskAt s t) _ _ refl refl refl (λ p. p) (λ p. p) (λ p. p) (o u d))
-  got-copy (settled w) h o inN a =
+  got-copy (Settled w) h o inN a =
       let k = h Guess (record { inN = inN; good = tt }) in
       quiet _ (λ _. (refl, refl)) (k .0, k .1, k .2, k .3, subst (λ (c : ℕ). Copied c (blockAt s) (taskAt s t .target) (taskAt s t .block) (taskAt s t .number)) (sym (a .1)) (k .4), omega (arith, a .1), a .0 ∙ ap (valueAt (hereOf s (taskAt s t)) (taskAt s t .number)) (sym (a .1)), k .6)
       (λ u d. apart-keep (Copying Guess) FillCopy _ (taskAt s t) _ _ refl refl refl (λ p. p) (λ p. p) (λ p. p) (o u d))

@@ -8,6 +8,8 @@ use lib.Dec.{eqb, leb, ltb}
 use lib.ListN.{getD, length, length-replicate, length-set, set}
 use borrow.Author.Tests.{leb-true}
 use Rattle.rulebook.specs.declared.Entry.{Entry}
+use Rattle.rulebook.specs.declared.Progress.{Progress}
+use Rattle.rulebook.specs.declared.Progress.the-variants.{Going, Settled}
 use Rattle.rulebook.specs.declared.Reading.the-variants.{Guess}
 use Rattle.rulebook.specs.declared.Slot.{Slot}
 use Rattle.rulebook.specs.declared.Stage.{Stage}
@@ -19,7 +21,7 @@ use Rattle.rulebook.specs.Machine.{Call, Get, LookCell, LookEntry, LookLog, Loo
 use Rattle.rulebook.specs.Sizes.{mostCells, mostHandles, opens, room, within}
 use Rattle.rulebook.specs.Starts.{Lie, noSlot, opened, opening, reserve, startGet, startNew, startPage, startSet, startable}
 use Rattle.rulebook.specs.State.{Block, Result, State, blockAt, freeBlock, freeSlot, idle, inUse, listTo, liveHandle, logAt, noBlock, withBlock, withCell, withLog, withSlot, withTask, withVersion}
-use Rattle.rulebook.specs.Steps.{Progress, answer, exchanged, filled, finished, going, gotCopy, gotGet, gotPage, hereOf, noRoom, settled, step, stepAt, taken}
+use Rattle.rulebook.specs.Steps.{answer, exchanged, filled, finished, gotCopy, gotGet, gotPage, hereOf, noRoom, step, stepAt, taken}
 use Rattle.rulebook.specs.Tests.{and-both, if-case}
 use Rattle.theorems.specs.Terms.{Every, more, none}
 
@@ -91,19 +93,19 @@ shape-taken s t k g h =
 
 pub shape-get : (g : Progress) (s : State) (t : ℕ) (k : Task) → Shape s → Shape (gotGet g s t k .0)
 unfolding gotGet
-shape-get (going r w) s t k h = shape-task s t _ h
-shape-get (settled w) s t k h = shape-task s t idle h
+shape-get (Going r w) s t k h = shape-task s t _ h
+shape-get (Settled w) s t k h = shape-task s t idle h
 
 pub shape-page : (g : Progress) (s : State) (t : ℕ) (k : Task) → Shape s → Shape (gotPage g s t k .0)
 unfolding gotPage
-shape-page (going r w) s t k h = shape-task s t _ h
-shape-page (settled w) s t k h =
+shape-page (Going r w) s t k h = shape-task s t _ h
+shape-page (Settled w) s t k h =
     if-case Shaped (eqb (w .cell + 1) (k .until)) (λ e. shape-task s t idle h) (λ e. shape-task s t _ h)
 
 pub shape-copy : (g : Progress) (s : State) (t : ℕ) (k : Task) → Shape s → Shape (gotCopy g s t k .0)
 unfolding gotCopy
-shape-copy (going r w) s t k h = shape-task s t _ h
-shape-copy (settled w) s t k h = shape-task s t _ h
+shape-copy (Going r w) s t k h = shape-task s t _ h
+shape-copy (Settled w) s t k h = shape-task s t _ h
 
 pub shape-step-at : (g : Stage) (s : State) (t : ℕ) (k : Task) → Shape s → Shape (stepAt g s t k .0)
 unfolding stepAt exchanged

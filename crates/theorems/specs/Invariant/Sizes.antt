@@ -4,6 +4,8 @@ use Prim.Native.Nat.{_+_, ℕ}
 use mathlib.Core.Bool.{_||_, not}
 use mathlib.Core.Path.{_≡_, refl}
 use lib.Dec.{eqb, leb, ltb}
+use Rattle.rulebook.specs.declared.Progress.{Progress}
+use Rattle.rulebook.specs.declared.Progress.the-variants.{Going, Settled}
 use Rattle.rulebook.specs.declared.Reading.the-variants.{Guess}
 use Rattle.rulebook.specs.declared.Stage.{Stage}
 use Rattle.rulebook.specs.declared.Stage.the-variants.{Append, Copying, Exchange, FillCopy, FillNew, Getting, Idle, Paging, Put, Read, TakeCopy, TakeNew, Write}
@@ -12,7 +14,7 @@ use Rattle.rulebook.specs.Machine.{release}
 use Rattle.rulebook.specs.Sizes.{slotOf}
 use Rattle.rulebook.specs.Starts.{noSlot, reserve, startGet, startNew, startPage, startSet, startable}
 use Rattle.rulebook.specs.State.{Result, State, freeBlock, inUse, liveHandle, taskAt, withBlock, withSlot, withTask}
-use Rattle.rulebook.specs.Steps.{Progress, counted, exchanged, filled, finished, going, gotCopy, gotGet, gotPage, hereOf, noRoom, settled, step, stepAt, taken}
+use Rattle.rulebook.specs.Steps.{counted, exchanged, filled, finished, gotCopy, gotGet, gotPage, hereOf, noRoom, step, stepAt, taken}
 use Rattle.rulebook.specs.Tests.{if-case}
 
 module _ (s : State) where
@@ -21,8 +23,8 @@ module _ (s : State) where
 
   sizes-got : (q : Progress) (t : ℕ) (k : Task) → Same-size (gotGet q s t k) × Same-size (gotPage q s t k) × Same-size (gotCopy q s t k)
   unfolding gotGet gotPage gotCopy withTask
-  sizes-got (going r w) t k = (refl, refl, refl)
-  sizes-got (settled w) t k = (refl, if-case Same-size (eqb (w .cell + 1) (k .until)) (λ _. refl) (λ _. refl), refl)
+  sizes-got (Going r w) t k = (refl, refl, refl)
+  sizes-got (Settled w) t k = (refl, if-case Same-size (eqb (w .cell + 1) (k .until)) (λ _. refl) (λ _. refl), refl)
 
   sizes-taken : (t : ℕ) (k : Task) (g : Stage) → Same-size (taken s t k g)
   unfolding taken noRoom withTask withSlot withBlock

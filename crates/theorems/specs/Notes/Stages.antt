@@ -11,6 +11,8 @@ use lib.ListN.{getD, length, length-replicate, length-set, replicate, set}
 use lib.Seq.{getD-set-other, getD-set-same}
 use borrow.Author.Tests.{eqb-false, eqb-true}
 use Rattle.rulebook.specs.declared.Entry.{Entry}
+use Rattle.rulebook.specs.declared.Progress.{Progress}
+use Rattle.rulebook.specs.declared.Progress.the-variants.{Going, Settled}
 use Rattle.rulebook.specs.declared.Reading.{Reading}
 use Rattle.rulebook.specs.declared.Reading.the-variants.{Guess}
 use Rattle.rulebook.specs.declared.Reply.the-variants.{Quiet}
@@ -20,7 +22,7 @@ use Rattle.rulebook.specs.declared.Task.{Task}
 use Rattle.rulebook.specs.Array.{getTable, newTable, setTable}
 use Rattle.rulebook.specs.History.{Past, Value, Work, making, one, paging, probing, reading, setting, stepped, tableOf}
 use Rattle.rulebook.specs.State.{Block, Result, State, blockAt, busy, freeBlock, handOf, idle, logAt, slotAt, taskAt, withBlock, withCell, withLog, withSlot, withTask, withVersion}
-use Rattle.rulebook.specs.Steps.{Progress, aimed, answer, counted, exchanged, filled, finished, getStep, going, gotCopy, gotGet, gotPage, hereOf, moved, settled, stepAt, taken}
+use Rattle.rulebook.specs.Steps.{aimed, answer, counted, exchanged, filled, finished, getStep, gotCopy, gotGet, gotPage, hereOf, moved, stepAt, taken}
 use Rattle.rulebook.specs.Tests.{by-test, if-case}
 use Rattle.theorems.specs.Invariant.Readings.{my-ok, my-stands, read-on}
 use Rattle.theorems.specs.Invariant.Shape.{shape-step-at}
@@ -102,10 +104,10 @@ module _ (p : Past) (tp : Told p) (t : ℕ) (inT : t < p .store .sizes .t) where
   fair-get : (q : Progress) (x : ℕ) (rd : Reading) → k .stage ≡ Getting rd → busy (k .stage) ≡ true → Named (slotAt s) (k .slot) (k .block) (k .number) → k .hand .cell < s .sizes .n → Reached q → Less (s .sizes .n) x q
       → p .works t ≡ reading m (k .hand .cell) → k .steps + x ≤ most (s .sizes .n) → p .given t ≡ [] → Here (reading m (k .hand .cell)) (gotGet q s t (counted k))
   unfolding gotGet moved counted withTask stepped pageOf
-  fair-get (going r w) x rd e bz named inN a less is cheap nil =
+  fair-get (Going r w) x rd e bz named inN a less is cheap nil =
       fair-same p tp t inT _ _ _ (moved (counted k) (Getting r) w) bz refl refl (slots-kept p tp t inT _ refl) (λ e. refl) (λ e. named .lives)
       (is ∙ ap (reading m) (sym (a .1)), omega arith, ap (λ (l : List Value). l ++ []) nil) (λ _. tt) refl none none (λ e. absurd (false≢true e))
-  fair-get (settled w) x rd e bz named inN a less is cheap nil =
+  fair-get (Settled w) x rd e bz named inN a less is cheap nil =
       fair-same p tp t inT _ _ _ idle bz refl refl (slots-kept p tp t inT _ refl) (λ e. absurd (false≢true e)) (λ e. absurd (false≢true e)) tt (λ _. tt) refl
       (more right none) none (λ _. (refl, my-spent (Getting rd) e (omega arith), omega arith, (ap (λ (l : List Value). l ++ (record { handle = m; cell = k .hand .cell; value = answer w } ∷ [])) nil ∙ ap (λ (v : ℕ). record { handle = m; cell = k .hand .cell; value = v } ∷ []) (right .value-is), right .known)))
     where
@@ -115,10 +117,10 @@ module _ (p : Past) (tp : Told p) (t : ℕ) (inT : t < p .store .sizes .t) where
   fair-page : (q : Progress) (r : Reading) (h : PageFor (s .sizes .n) r (p .works t) m k (p .given t) (tableOf (p .versions) m)) → k .stage ≡ Paging r → busy (k .stage) ≡ true → Named (slotAt s) (k .slot) (k .block) (k .number) → k .hand .cell < s .sizes .n → Reached q → Less (s .sizes .n) (leftOf (s .sizes .n) r (k .hand)) q
       → Here (paging m (h .from) (h .size)) (gotPage q s t (counted k))
   unfolding gotPage moved counted withTask stepped
-  fair-page (going r' w) r h e bz named inN a less =
+  fair-page (Going r' w) r h e bz named inN a less =
       fair-same p tp t inT _ _ _ (moved (counted k) (Paging r') w) bz refl refl (slots-kept p tp t inT _ refl) (λ e. refl) (λ e. named .lives)
       (record { from = h .from; size = h .size; done = h .done; is = h .is; at = a .1 ∙ h .at; until-is = h .until-is; price = omega (arith, h .price); so-far = append-none (p .given t) ∙ h .so-far }) (λ _. tt) refl none none (λ e. absurd (false≢true e))
-  fair-page (settled w) r h e bz named inN a less =
+  fair-page (Settled w) r h e bz named inN a less =
       if-case (Here (paging m (h .from) (h .size))) (eqb (w .cell + 1) (k .until))
       (λ z. fair-same p tp t inT _ _ _ idle bz refl refl (slots-kept p tp t inT _ refl) (λ e. absurd (false≢true e)) (λ e. absurd (false≢true e)) tt (λ _. tt) refl
       none (more given none) (λ _. (refl, my-spent (Paging r) e tt, last (eqb-true (w .cell + 1) (k .until) z), (so-on ∙ ap (pageOf m (tableOf (p .versions) m) (h .from)) (size-is (eqb-true (w .cell + 1) (k .until) z)), given .known))))
@@ -150,9 +152,9 @@ module _ (p : Past) (tp : Told p) (t : ℕ) (inT : t < p .store .sizes .t) where
   fair-copy : (q : Progress) (x : ℕ) → busy (k .stage) ≡ true → Named (slotAt s) (k .slot) (k .block) (k .number) → p .works t ≡ setting m (k .cell) (k .value) → CopyLess (s .sizes .n) (hereOf s k) x q → CopyAt (k .steps + 1) probes q → k .steps + x ≤ 5 * s .sizes .n + 3
       → Here (setting m (k .cell) (k .value)) (gotCopy q s t (counted k))
   unfolding gotCopy moved counted withTask stepped
-  fair-copy (going r w) x bz named is less at wi =
+  fair-copy (Going r w) x bz named is less at wi =
       fair-same p tp t inT _ _ _ (moved (counted k) (Copying r) w) bz refl refl (slots-kept p tp t inT _ refl) (λ e. refl) (λ e. named .lives) is (λ _. (at, omega (arith, less))) refl none none (λ e. absurd (false≢true e))
-  fair-copy (settled w) x bz named is less at wi =
+  fair-copy (Settled w) x bz named is less at wi =
       fair-same p tp t inT _ _ _ (moved (counted k) FillCopy w) bz refl refl (slots-kept p tp t inT _ refl) (λ e. refl) (λ e. named .lives) is (λ _. (at, omega (arith, less))) refl none none (λ e. absurd (false≢true e))
 
   -- ---- a set, and a new

@@ -12,6 +12,8 @@ use lib.Seq.{getD-set-other, getD-set-same}
 use borrow.Author.Tests.{eqb-true}
 use Rattle.rulebook.specs.declared.Entry.{Entry}
 use Rattle.rulebook.specs.declared.Hand.{Hand}
+use Rattle.rulebook.specs.declared.Progress.{Progress}
+use Rattle.rulebook.specs.declared.Progress.the-variants.{Going, Settled}
 use Rattle.rulebook.specs.declared.Reading.{Reading}
 use Rattle.rulebook.specs.declared.Reading.the-variants.{Guess, Length, Probe, Version}
 use Rattle.rulebook.specs.declared.Stage.{Stage}
@@ -20,7 +22,7 @@ use Rattle.rulebook.specs.declared.Task.{Task}
 use Rattle.rulebook.specs.History.{one, probing}
 use Rattle.rulebook.specs.Sizes.{if_then_else_}
 use Rattle.rulebook.specs.State.{Block, State, blockAt, idle, logAt, names, noBlock, stood, taskAt}
-use Rattle.rulebook.specs.Steps.{Progress, getStep, going, hereOf, probed, settled}
+use Rattle.rulebook.specs.Steps.{getStep, hereOf, probed}
 use Rattle.rulebook.specs.Tests.{by-test, if-case}
 use Rattle.theorems.specs.Invariant.Moves.{Goes, InvS}
 use Rattle.theorems.specs.Invariant.Readings.{u-named}
@@ -140,8 +142,8 @@ copy-some n Length w b o = omega arith
 copy-some n Probe w b o = omega arith
 
 abbrev pub CopyLess : ℕ → Block → ℕ → Progress → Type 0
-CopyLess n b x (going r w) = copyLeft n r w b < x
-CopyLess n b x (settled w) = toWrite n w b < x
+CopyLess n b x (Going r w) = copyLeft n r w b < x
+CopyLess n b x (Settled w) = toWrite n w b < x
 
 pub copy-less : (r : Reading) (n : ℕ) (b : Block) (m : ℕ) (w : Hand) → passed b (w .cell + 1) ≤ n → Unsettled r w → CopyLess n b (copyLeft n r w b) (getStep r b m w)
 unfolding getStep
@@ -199,8 +201,8 @@ within-grows n (Paging r) k b b' x h q = tt
 
 -- a copy that has taken x steps, q of them probes, after a step of its get
 abbrev pub CopyAt : ℕ → ℕ → Progress → Type 0
-CopyAt x q (going r w) = x ≡ 2 + 4 * w .cell + behind r + q
-CopyAt x q (settled w) = x ≡ 5 + 4 * w .cell + q
+CopyAt x q (Going r w) = x ≡ 2 + 4 * w .cell + behind r + q
+CopyAt x q (Settled w) = x ≡ 5 + 4 * w .cell + q
 
 -- the get of a copy, on a block that is newer than its handle, takes three steps and its probes
 pub copy-at : (r : Reading) (b : Block) (m : ℕ) (w : Hand) (x q : ℕ) → m < b .version → x ≡ 2 + 4 * w .cell + behind r + q → CopyAt (x + 1) (q + one (probing (Copying r))) (getStep r b m w)

@@ -9,10 +9,12 @@ use lib.ListN.{length}
 use borrow.Author.Tests.{eqb-false, eqb-true}
 use Rattle.rulebook.specs.declared.Entry.{Entry}
 use Rattle.rulebook.specs.declared.Hand.{Hand}
+use Rattle.rulebook.specs.declared.Progress.{Progress}
+use Rattle.rulebook.specs.declared.Progress.the-variants.{Going, Settled}
 use Rattle.rulebook.specs.declared.Reading.{Reading}
 use Rattle.rulebook.specs.declared.Reading.the-variants.{Guess, Length, Probe, Version}
 use Rattle.rulebook.specs.State.{Block, logAt}
-use Rattle.rulebook.specs.Steps.{Progress, getStep, going, middle, probed, settled}
+use Rattle.rulebook.specs.Steps.{getStep, middle, probed}
 use Rattle.rulebook.specs.Tests.{by-test, if-case}
 use Rattle.theorems.specs.Reading.Get.{Good}
 use Rattle.theorems.specs.Terms.{digits, digitsIn, versionAt}
@@ -91,8 +93,8 @@ left-some m Probe w o = omega (arith, digits-half (w .hi - w .lo) (omega arith))
 
 -- a step of a get takes one of them
 abbrev pub Less : ℕ → ℕ → Progress → Type 0
-Less m x (going r w) = leftOf m r w < x
-Less m x (settled w) = 0 < x
+Less m x (Going r w) = leftOf m r w < x
+Less m x (Settled w) = 0 < x
 
 -- a probe takes one digit of what is left
 pub probe-less : (l : List Entry) (n : ℕ) (w : Hand) → w .lo < w .hi → digits (probed l n w .hi - probed l n w .lo) < digits (w .hi - w .lo)

@@ -7,6 +7,8 @@ use native.Mathlib.Omega.{arith}
 use lib.Dec.{eqb, leb, ltb}
 use lib.ListN.{length, set}
 use borrow.Author.Tests.{eqb-false, eqb-true, le-leb, leb-false, lt-leb, ltb-false, ltb-true, ne-eqb}
+use Rattle.rulebook.specs.declared.Progress.{Progress}
+use Rattle.rulebook.specs.declared.Progress.the-variants.{Going, Settled}
 use Rattle.rulebook.specs.declared.Reading.{Reading}
 use Rattle.rulebook.specs.declared.Reading.the-variants.{Guess}
 use Rattle.rulebook.specs.declared.Slot.{Slot}
@@ -18,7 +20,7 @@ use Rattle.rulebook.specs.Answers.{operation}
 use Rattle.rulebook.specs.History.{notYetSet, one}
 use Rattle.rulebook.specs.Lists.{any-set}
 use Rattle.rulebook.specs.State.{Block, Result, State, any, blockAt, busy, exchanges, freeBlock, handOf, idle, isLive, logAt, names, slotAt, stood, taskAt, withBlock, withCell, withLog, withSlot, withTask, withVersion}
-use Rattle.rulebook.specs.Steps.{Progress, aimed, answer, counted, exchanged, filled, finished, going, gotCopy, gotGet, gotPage, hereOf, moved, noRoom, settled, stepAt, taken}
+use Rattle.rulebook.specs.Steps.{aimed, answer, counted, exchanged, filled, finished, gotCopy, gotGet, gotPage, hereOf, moved, noRoom, stepAt, taken}
 use Rattle.rulebook.specs.Tests.{by-test, if-case}
 use Rattle.theorems.specs.Invariant.Facts.{stood-by}
 use Rattle.theorems.specs.Invariant.Moves.{Goes, InvS}
@@ -75,21 +77,21 @@ module _ (s : State) (sh : Shape s) (iv : InvS s) (t : ℕ) (inT : t < s .sizes 
   -- a task that is no set
   cost-get : (q : Progress) → Named (slotAt s) (k .slot) (k .block) (k .number) → Costs 0 0 (gotGet q s t (counted k) .0)
   unfolding gotGet moved counted withTask stood
-  cost-get (going r w) h = cost-task 0 0 _ (moved (counted k) (Getting r) w) refl refl refl refl refl (λ j z. z) (λ n. h) zero-le
-  cost-get (settled w) h = cost-task 0 0 _ idle refl refl refl refl refl (λ j z. z) (λ n. absurd (false≢true n)) zero-le
+  cost-get (Going r w) h = cost-task 0 0 _ (moved (counted k) (Getting r) w) refl refl refl refl refl (λ j z. z) (λ n. h) zero-le
+  cost-get (Settled w) h = cost-task 0 0 _ idle refl refl refl refl refl (λ j z. z) (λ n. absurd (false≢true n)) zero-le
 
   cost-page : (q : Progress) → Named (slotAt s) (k .slot) (k .block) (k .number) → Costs 0 0 (gotPage q s t (counted k) .0)
   unfolding gotPage moved counted withTask stood
-  cost-page (going r w) h = cost-task 0 0 _ (moved (counted k) (Paging r) w) refl refl refl refl refl (λ j z. z) (λ n. h) zero-le
-  cost-page (settled w) h =
+  cost-page (Going r w) h = cost-task 0 0 _ (moved (counted k) (Paging r) w) refl refl refl refl refl (λ j z. z) (λ n. h) zero-le
+  cost-page (Settled w) h =
       if-case (λ (r : Result). Costs 0 0 (r .0)) (eqb (w .cell + 1) (k .until))
       (λ e. cost-task 0 0 _ idle refl refl refl refl refl (λ j z. z) (λ n. absurd (false≢true n)) zero-le)
       (λ e. cost-task 0 0 _ (moved (counted k) (Paging Guess) (handOf (w .cell + 1))) refl refl refl refl refl (λ j z. z) (λ n. h) zero-le)
 
   cost-copy : (q : Progress) (r : Reading) → k .stage ≡ Copying r → Named (slotAt s) (k .slot) (k .block) (k .number) → CopyLess N (hereOf s k) (copyLeft N r (k .hand) (hereOf s k)) q → Costs 1 0 (gotCopy q s t (counted k) .0)
   unfolding gotCopy moved counted withTask stood
-  cost-copy (going r' w) r e h less = cost-task 1 0 _ (moved (counted k) (Copying r') w) refl refl refl refl refl (λ j z. z) (λ n. h) (omega (arith, less, my-rest (Copying r) e))
-  cost-copy (settled w) r e h less = cost-task 1 0 _ (moved (counted k) FillCopy w) refl refl refl refl refl (λ j z. z) (λ n. h) (omega (arith, less, my-rest (Copying r) e))
+  cost-copy (Going r' w) r e h less = cost-task 1 0 _ (moved (counted k) (Copying r') w) refl refl refl refl refl (λ j z. z) (λ n. h) (omega (arith, less, my-rest (Copying r) e))
+  cost-copy (Settled w) r e h less = cost-task 1 0 _ (moved (counted k) FillCopy w) refl refl refl refl refl (λ j z. z) (λ n. h) (omega (arith, less, my-rest (Copying r) e))
 
   saved-none : (b : Block) → saved N (withVersion b 0) ≡ 0
   unfolding withVersion

@@ -10,6 +10,8 @@ use lib.Dec.{eqb, leb}
 use lib.ListN.{length}
 use borrow.Author.Tests.{eqb-false, eqb-true, leb-false, leb-true, not-false}
 use Rattle.rulebook.specs.declared.Entry.{Entry}
+use Rattle.rulebook.specs.declared.Progress.{Progress}
+use Rattle.rulebook.specs.declared.Progress.the-variants.{Going, Settled}
 use Rattle.rulebook.specs.declared.Reading.{Reading}
 use Rattle.rulebook.specs.declared.Reading.the-variants.{Guess, Length, Probe, Version}
 use Rattle.rulebook.specs.declared.Reply.{Reply}
@@ -24,7 +26,7 @@ use Rattle.rulebook.specs.Machine.{Call, Get, LookCell, LookEntry, LookLog, Loo
 use Rattle.rulebook.specs.Sizes.{if_then_else_, opens, room}
 use Rattle.rulebook.specs.Starts.{opened, opening, startGet, startNew, startPage, startSet, startable}
 use Rattle.rulebook.specs.State.{Result, State, blockAt, busy, freeBlock, held, logAt, stood, taskAt}
-use Rattle.rulebook.specs.Steps.{Progress, counted, exchanged, finished, going, gotCopy, gotGet, gotPage, hereOf, noRoom, settled, step, stepAt, taken}
+use Rattle.rulebook.specs.Steps.{counted, exchanged, finished, gotCopy, gotGet, gotPage, hereOf, noRoom, step, stepAt, taken}
 use Rattle.rulebook.specs.Tests.{by-test, if-case, or-neither}
 use Rattle.theorems.specs.Invariant.Facts.{not-held}
 use Rattle.theorems.specs.Terms.{allTo, causes, due, full}
@@ -104,8 +106,8 @@ module _ (s : State) where
   -- a step of a get, a page or a copy is not refused
   fits-got : (q : Progress) (t : ℕ) (k : Task) → (refusal (gotGet q s t k .1) ≡ 0) × (refusal (gotPage q s t k .1) ≡ 0) × (refusal (gotCopy q s t k .1) ≡ 0)
   unfolding gotGet gotPage gotCopy
-  fits-got (going r w) t k = (refl, refl, refl)
-  fits-got (settled w) t k =
+  fits-got (Going r w) t k = (refl, refl, refl)
+  fits-got (Settled w) t k =
       (refl, if-case (λ (r : Result). refusal (r .1) ≡ 0) (eqb (w .cell + 1) (k .until)) (λ e. refl) (λ e. refl), refl)
 
   no-code : (r : Reading) → eqb (readingCode r) 1 ≡ false

@@ -9,6 +9,8 @@ use lib.Dec.{eqb, leb, ltb}
 use lib.ListN.{List·getD-eq-default, getD, length, length-set, set}
 use lib.Seq.{getD-set-same}
 use borrow.Author.Tests.{leb-false, leb-true, ltb-false, ltb-true, not-false}
+use Rattle.rulebook.specs.declared.Progress.{Progress}
+use Rattle.rulebook.specs.declared.Progress.the-variants.{Going, Settled}
 use Rattle.rulebook.specs.declared.Reading.the-variants.{Guess}
 use Rattle.rulebook.specs.declared.Sizes.{Sizes}
 use Rattle.rulebook.specs.declared.Slot.{Slot}
@@ -20,7 +22,7 @@ use Rattle.rulebook.specs.Answers.{refusal}
 use Rattle.rulebook.specs.Lists.{listTo-same, lowest-none}
 use Rattle.rulebook.specs.Sizes.{serialOf, slotOf}
 use Rattle.rulebook.specs.State.{Result, State, blockAt, freeBlock, freed, held, idle, isLive, listTo, liveHandle, slotAt, taskAt, withSlot, withTask}
-use Rattle.rulebook.specs.Steps.{Progress, counted, exchanged, finished, going, gotCopy, gotGet, gotPage, hereOf, noRoom, settled, step, stepAt, taken}
+use Rattle.rulebook.specs.Steps.{counted, exchanged, finished, gotCopy, gotGet, gotPage, hereOf, noRoom, step, stepAt, taken}
 use Rattle.rulebook.specs.Tests.{by-test, if-case}
 use Rattle.theorems.specs.Invariant.Calls.{live-handle}
 use Rattle.theorems.specs.Invariant.Moves.{InvS, Same}
@@ -67,8 +69,8 @@ module _ (s : State) (t : ℕ) (inside : t < length (s .tasks)) where
 
   ten-got : (q : Progress) (k : Task) → Tens (k .fresh) (gotGet q s t k) × Tens (k .fresh) (gotPage q s t k) × Tens (k .fresh) (gotCopy q s t k)
   unfolding gotGet gotPage gotCopy
-  ten-got (going r w) k = (accepts, accepts, accepts)
-  ten-got (settled w) k = (accepts, if-case (Tens (k .fresh)) (eqb (w .cell + 1) (k .until)) (λ e. accepts) (λ e. accepts), accepts)
+  ten-got (Going r w) k = (accepts, accepts, accepts)
+  ten-got (Settled w) k = (accepts, if-case (Tens (k .fresh)) (eqb (w .cell + 1) (k .until)) (λ e. accepts) (λ e. accepts), accepts)
 
   ten-at : (g : Stage) (k : Task) → Tens (k .fresh) (stepAt g s t k)
   unfolding stepAt finished exchanged

@@ -11,10 +11,12 @@ use lib.Seq.{getD-take, length-take-le, take-all, take-append-le}
 use borrow.Author.Tests.{eqb-false, eqb-true}
 use Rattle.rulebook.specs.declared.Entry.{Entry}
 use Rattle.rulebook.specs.declared.Hand.{Hand}
+use Rattle.rulebook.specs.declared.Progress.{Progress}
+use Rattle.rulebook.specs.declared.Progress.the-variants.{Going, Settled}
 use Rattle.rulebook.specs.declared.Reading.{Reading}
 use Rattle.rulebook.specs.declared.Reading.the-variants.{Guess, Length, Probe, Version}
 use Rattle.rulebook.specs.State.{Block, logAt, noEntry}
-use Rattle.rulebook.specs.Steps.{Progress, answer, getStep, going, middle, probed, searching, settled}
+use Rattle.rulebook.specs.Steps.{answer, getStep, middle, probed, searching}
 use Rattle.rulebook.specs.Tests.{if-case}
 use Rattle.theorems.specs.Reading.Append.{entry, value-snoc}
 use Rattle.theorems.specs.Reading.Search.{Below, Rises, Sought, sought-end, sought-probe, sought-start, value-none}
@@ -37,8 +39,8 @@ Good Probe l n w x = Searching l n w x
 
 -- what holds after it
 abbrev pub After : List Entry → ℕ → ℕ → ℕ → Progress → Type 0
-After l n i x (going r w) = Good r l n w x × (w .cell ≡ i)
-After l n i x (settled w) = (answer w ≡ x) × (w .cell ≡ i)
+After l n i x (Going r w) = Good r l n w x × (w .cell ≡ i)
+After l n i x (Settled w) = (answer w ≡ x) × (w .cell ≡ i)
 
 version-take : (k : ℕ) (l : List Entry) (p : ℕ) → p < k → versionAt (take k l) p ≡ versionAt l p
 version-take k l p h = ap (λ (e : Entry). e .version) (getD-take k l p noEntry h)
