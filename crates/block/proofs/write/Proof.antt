@@ -1,0 +1,17 @@
+use Rattle.block.specs.Outs.{cells}
+use borrow.Author.Needs.{needs}
+use Rattle.block.proofs.write.Statement.{statement}
+use Rattle.block.proofs.write.Tie as tie
+
+pub write-spec : {M : Type 1} → statement M
+write-spec =
+    tie.close
+    (tie.spec
+    (λ c κs. search (needs, cells))
+    (λ c. search (needs, cells))
+    (λ c. search (needs, cells))
+    (λ c κs. search (needs, cells))
+    (λ c. search (needs, cells))
+    (λ c. search (needs, cells))
+    (λ c. search (needs, cells))
+    (λ c. search (needs, cells)))
