@@ -5,3 +5,7 @@ pub mod Outs
 pub mod Chunks
 pub mod Rooms
 pub mod Plans
+pub mod Sound
+pub mod Sums
+pub mod Growth
+pub mod Stores
