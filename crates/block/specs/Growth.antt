@@ -61,11 +61,11 @@ module _ {n i m : ℕ} {e : Entry} {v v′ : View} (few : n < 2 ^ 31) (room : 2 
   longer k h =
       by-test (eqb k i)
       (λ q.
-        let a : v′ .len k ≡ v′ .len i = ap (v′ .len) (eqb-true k i q) in
-        let b : v .len k ≡ v .len i = ap (v .len) (eqb-true k i q) in
-        let g = G .grew in
-        let w = G .was in
-        omega arith)
+      let a : v′ .len k ≡ v′ .len i = ap (v′ .len) (eqb-true k i q) in
+      let b : v .len k ≡ v .len i = ap (v .len) (eqb-true k i q) in
+      let g = G .grew in
+      let w = G .was in
+      omega arith)
       (λ q. let a = G .others k h (eqb-false k i q) in omega arith)
 
   -- a place of the log now: one that it had, or place t of the new chunk
@@ -79,20 +79,20 @@ module _ {n i m : ℕ} {e : Entry} {v v′ : View} (few : n < 2 ^ 31) (room : 2 
   old-or-new k j h l =
       by-test (eqb k i)
       (λ q.
-        let x = next in
-        let a : v′ .len k ≡ m + 1 = ap (v′ .len) (eqb-true k i q) ∙ G .grew in
-        let b : v .len k ≡ m = ap (v .len) (eqb-true k i q) ∙ G .was in
-        let sa : spaceOf (v′ .len k) ≡ spaceOf (m + 1) = ap spaceOf a in
-        let sb : spaceOf (v .len k) ≡ spaceOf m = ap spaceOf b in
-        ⊎-elim
-        (λ (o : Opened i m v v′).
-          let u = fresh-before m (omega arith) (o .opens) in
-          let w = fresh-after m (omega arith) (o .opens) in
-          by-test (leb m j)
-          (λ g. let y = leb-true m j g in inr (j - m, record { own = eqb-true k i q; nth = omega arith; inside = omega arith; opened = o }))
-          (λ g. let y = leb-false m j g in inl (omega arith)))
-        (λ (s : Stayed m v v′). let u = held-after m (omega arith) (s .stands) in inl (omega arith))
-        (G .kind))
+      let x = next in
+      let a : v′ .len k ≡ m + 1 = ap (v′ .len) (eqb-true k i q) ∙ G .grew in
+      let b : v .len k ≡ m = ap (v .len) (eqb-true k i q) ∙ G .was in
+      let sa : spaceOf (v′ .len k) ≡ spaceOf (m + 1) = ap spaceOf a in
+      let sb : spaceOf (v .len k) ≡ spaceOf m = ap spaceOf b in
+      ⊎-elim
+      (λ (o : Opened i m v v′).
+      let u = fresh-before m (omega arith) (o .opens) in
+      let w = fresh-after m (omega arith) (o .opens) in
+      by-test (leb m j)
+      (λ g. let y = leb-true m j g in inr (j - m, record { own = eqb-true k i q; nth = omega arith; inside = omega arith; opened = o }))
+      (λ g. let y = leb-false m j g in inl (omega arith)))
+      (λ (s : Stayed m v v′). let u = held-after m (omega arith) (s .stands) in inl (omega arith))
+      (G .kind))
       (λ q. inl (rw (ap spaceOf (G .others k h (eqb-false k i q))) at l))
 
   new-place : (k j t : ℕ) → New k j t → v′ .place k j ≡ v .bump + t
@@ -109,27 +109,27 @@ module _ {n i m : ℕ} {e : Entry} {v v′ : View} (few : n < 2 ^ 31) (room : 2 
   once′ k j l t h g a b q =
       ⊎-elim
       (λ (o : j < spaceOf (v .len k)).
-        ⊎-elim
-        (λ (p : t < spaceOf (v .len l)). S .once k j l t h g o p (sym (G .kept k j h o) ∙ q ∙ G .kept l t g p))
-        (λ (w : (x : ℕ) × New l t x).
-          let c = S .below k j h o in
-          let d = G .kept k j h o in
-          let y = new-place l t (w .0) (w .1) in
-          absurd (omega arith))
-        (old-or-new l t g b))
+      ⊎-elim
+      (λ (p : t < spaceOf (v .len l)). S .once k j l t h g o p (sym (G .kept k j h o) ∙ q ∙ G .kept l t g p))
+      (λ (w : (x : ℕ) × New l t x).
+      let c = S .below k j h o in
+      let d = G .kept k j h o in
+      let y = new-place l t (w .0) (w .1) in
+      absurd (omega arith))
+      (old-or-new l t g b))
       (λ (w : (x : ℕ) × New k j x).
-        let y = new-place k j (w .0) (w .1) in
-        ⊎-elim
-        (λ (p : t < spaceOf (v .len l)).
-          let c = S .below l t g p in
-          let d = G .kept l t g p in
-          absurd (omega arith))
-        (λ (z : (x : ℕ) × New l t x).
-          let y₂ = new-place l t (z .0) (z .1) in
-          let a₁ = w .1 .nth in
-          let a₂ = z .1 .nth in
-          (w .1 .own ∙ sym (z .1 .own), omega arith))
-        (old-or-new l t g b))
+      let y = new-place k j (w .0) (w .1) in
+      ⊎-elim
+      (λ (p : t < spaceOf (v .len l)).
+      let c = S .below l t g p in
+      let d = G .kept l t g p in
+      absurd (omega arith))
+      (λ (z : (x : ℕ) × New l t x).
+      let y₂ = new-place l t (z .0) (z .1) in
+      let a₁ = w .1 .nth in
+      let a₂ = z .1 .nth in
+      (w .1 .own ∙ sym (z .1 .own), omega arith))
+      (old-or-new l t g b))
       (old-or-new k j h a)
 
   tally′ : v′ .bump ≡ sumTo n (λ (k : ℕ). spaceOf (v′ .len k))
@@ -141,10 +141,10 @@ module _ {n i m : ℕ} {e : Entry} {v v′ : View} (few : n < 2 ^ 31) (room : 2 
       let t = S .tally in
       ⊎-elim
       (λ (o : Opened i m v v′).
-        let x = fresh-before m (omega arith) (o .opens) in
-        let y = fresh-after m (omega arith) (o .opens) in
-        let z = o .bump in
-        omega arith)
+      let x = fresh-before m (omega arith) (o .opens) in
+      let y = fresh-after m (omega arith) (o .opens) in
+      let z = o .bump in
+      omega arith)
       (λ (o : Stayed m v v′). let x = held-after m (omega arith) (o .stands) in let z = o .bump in omega arith)
       (G .kind)
 
@@ -172,11 +172,11 @@ module _ {n i m : ℕ} {e : Entry} {v v′ : View} (few : n < 2 ^ 31) (room : 2 
       let c : v′ .len i ≤ spaceOf (v′ .len i) = space-least (v′ .len i) (let y = short′ i (G .cell) in omega arith) in
       let r = G .grew in
       let apart : v′ .place k j ≡ v′ .place i m → ⊥ =
-          λ q.
-            let o = once′ k j i m h (G .cell) (omega arith) (omega arith) q in
-            let d : v .len k ≡ v .len i = ap (v .len) (o .0) in
-            let w = G .was in
-            omega (arith, o .1) in
+      λ q.
+      let o = once′ k j i m h (G .cell) (omega arith) (omega arith) q in
+      let d : v .len k ≡ v .len i = ap (v .len) (o .0) in
+      let w = G .was in
+      omega (arith, o .1) in
       G .rest (v′ .place k j) apart ∙ ap (v .entry) (G .kept k j h (omega arith))
 
   pub grown-other : (k : ℕ) → k < n → (k ≡ i → ⊥) → logOf v′ k ≡ logOf v k
@@ -189,6 +189,6 @@ module _ {n i m : ℕ} {e : Entry} {v v′ : View} (few : n < 2 ^ 31) (room : 2 
       ap (λ (x : ℕ). listTo x (λ (j : ℕ). v′ .entry (v′ .place i j))) (G .grew ∙ add-one m)
       ∙ listTo-snoc m (λ (j : ℕ). v′ .entry (v′ .place i j))
       ∙ ap₂ (λ (l : List Entry) (x : Entry). l ++ (x ∷ []))
-          (listTo-same m (λ (j : ℕ). v′ .entry (v′ .place i j)) (λ (j : ℕ). v .entry (v .place i j)) (λ j l. same i j (G .cell) (subst (λ (x : ℕ). j < x) (sym (G .was)) l))
-            ∙ ap (λ (x : ℕ). listTo x (λ (j : ℕ). v .entry (v .place i j))) (sym (G .was)))
-          (G .put)
+      (listTo-same m (λ (j : ℕ). v′ .entry (v′ .place i j)) (λ (j : ℕ). v .entry (v .place i j)) (λ j l. same i j (G .cell) (subst (λ (x : ℕ). j < x) (sym (G .was)) l))
+      ∙ ap (λ (x : ℕ). listTo x (λ (j : ℕ). v .entry (v .place i j))) (sym (G .was)))
+      (G .put)

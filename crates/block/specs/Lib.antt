@@ -9,3 +9,7 @@ pub mod Sound
 pub mod Sums
 pub mod Growth
 pub mod Stores
+pub mod Reads
+pub mod Writes
+pub mod Fills
+pub mod Appends

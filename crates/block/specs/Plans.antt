@@ -17,7 +17,7 @@ use Rattle.block.specs.declared.Spot.{Spot}
 use Rattle.block.specs.declared.Room.{Room}
 use Rattle.block.specs.declared.Room.the-variants.{At, Full}
 use Rattle.block.specs.Layout.{lengthIx, baseIx, entryIx, arena, chunkOf, offsetOf, bumpOf, lengthOf, baseOf, placeOf, Sized}
-use Rattle.block.specs.Words.{lengthIn, freshRoom, heldRoom, roomUnder, roomIn, stored, appendAt, appendIn}
+use Rattle.block.specs.Words.{lengthIn, freshSpot, freshRoom, heldSpot, heldRoom, roomUnder, roomIn, stored, appendAt, appendIn}
 use Rattle.block.specs.Rooms.{length-told, told-reach}
 
 -- a new chunk at the bump
@@ -108,6 +108,11 @@ pub room-planned : (n : ℕ) (w : List ℕ) (i : ℕ) (s : Spot) → roomIn n w 
 unfolding roomIn
 room-planned n w i s h = under n w i s (lengthIn n w i) refl h
 
+pub planned-wide : {n : ℕ} {w : List ℕ} {i m : ℕ} {s : Spot} → Planned n w i m s → s .chunk < directoryWidth n
+planned-wide {n} {w} {i} {m} {s} p =
+    let h = p .short in
+    rw (p .chunk) (told-reach n w i m (record { sized = p .sized; cell = p .cell; is = p .is; short = omega arith }) m h .chunk)
+
 -- ---- the ways out of `append`
 
 module _ (r : Room) (n : ℕ) (w : List ℕ) (i : ℕ) (e : r ≡ roomIn n w i) where
@@ -126,9 +131,7 @@ module _ (r : Room) (n : ℕ) (w : List ℕ) (i : ℕ) (e : r ≡ roomIn n w i) 
     spot-cell = plan .1 .cell
 
     pub spot-chunk : s .chunk < directoryWidth n
-    spot-chunk =
-        let p = plan .1 in
-        rw (p .chunk) (told-reach n w i (plan .0) (record { sized = p .sized; cell = p .cell; is = p .is; short = (let h = p .short in omega arith) }) (plan .0) (p .short) .chunk)
+    spot-chunk = planned-wide (plan .1)
 
     pub spot-place : s .place < arena n
     spot-place = plan .1 .inside

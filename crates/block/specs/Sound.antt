@@ -4,10 +4,9 @@ use Prim.Native.Nat.{ℕ, zero, suc, _+_, _≤_, _<_}
 use mathlib.Core.Path.{_≡_}
 use mathlib.Core.List.{List}
 use lib.ListN.{length}
-use Rattle.rulebook.specs.Sizes.{blockWords}
 use Rattle.rulebook.specs.State.{Block, logAt, listTo}
 use Rattle.rulebook.specs.declared.Entry.{Entry}
-use Rattle.block.specs.Layout.{arena, spaceOf, versionOf, bumpOf, cellOf, lengthOf, placeOf, entryOf}
+use Rattle.block.specs.Layout.{arena, spaceOf, versionOf, bumpOf, cellOf, lengthOf, placeOf, entryOf, Sized}
 
 -- ---- the logs of a block
 
@@ -49,11 +48,11 @@ pub record Sound (n : ℕ) (v : View) : Type 0 where
 
 -- the words of a block whose logs are sound
 pub record Laid (n : ℕ) (w : List ℕ) : Type 0 where
-  pub long : length w ≡ blockWords n
+  pub sized : Sized n w
   pub sound : Sound n (viewOf n w)
 
 -- a block that is filled up to cell c
 pub record Filling (c n : ℕ) (w : List ℕ) : Type 0 where
-  pub long : length w ≡ blockWords n
+  pub sized : Sized n w
   pub bump : bumpOf w ≡ 0
   pub empty : (i : ℕ) → i < c → i < n → lengthOf n w i ≡ 0

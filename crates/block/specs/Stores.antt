@@ -36,7 +36,7 @@ module _ (n : ℕ) (w : List ℕ) (x a : ℕ) where
     entries-left =
         λ t p. record {
           version = getD-set-other w x (entryIx n p) a 0 (λ q. omega arith) t;
-          old = getD-set-other w x (entryIx n p + 1) a 0 (λ q. omega arith) t
+          old = getD-set-other w x (entryIx n p + 1) a 0 (λ q. omega arith) t;
         }
 
 module _ (n : ℕ) where

@@ -24,14 +24,14 @@ sum-one zero i f g l h = absurd (not-suc-le-zero l)
 sum-one (suc n) i f g l h =
     ⊎-elim
     (λ (e : i ≡ n).
-      let s : sumTo n g ≡ sumTo n f = sum-same n g f (λ k q. h k (omega arith) (λ r. omega arith)) in
-      let a : f i ≡ f n = ap f e in
-      let b : g i ≡ g n = ap g e in
-      omega arith)
+    let s : sumTo n g ≡ sumTo n f = sum-same n g f (λ k q. h k (omega arith) (λ r. omega arith)) in
+    let a : f i ≡ f n = ap f e in
+    let b : g i ≡ g n = ap g e in
+    omega arith)
     (λ (q : i < n).
-      let s : sumTo n g + f i ≡ sumTo n f + g i = sum-one n i f g q (λ k r. h k (omega arith)) in
-      let t : g n ≡ f n = h n (omega arith) (λ r. omega arith) in
-      omega arith)
+    let s : sumTo n g + f i ≡ sumTo n f + g i = sum-one n i f g q (λ k r. h k (omega arith)) in
+    let t : g n ≡ f n = h n (omega arith) (λ r. omega arith) in
+    omega arith)
     (eq-or-lt-of-le (le-of-suc-le-suc l))
 
 pub sum-at : (n i : ℕ) (f : ℕ → ℕ) → i < n → f i ≤ sumTo n f
@@ -54,12 +54,12 @@ sum-slack zero i f g l h = absurd (not-suc-le-zero l)
 sum-slack (suc n) i f g l h =
     ⊎-elim
     (λ (e : i ≡ n).
-      let s = sum-twice n f g (λ k q. h k (omega arith)) in
-      let a : f i ≡ f n = ap f e in
-      let b : g i ≡ g n = ap g e in
-      omega arith)
+    let s = sum-twice n f g (λ k q. h k (omega arith)) in
+    let a : f i ≡ f n = ap f e in
+    let b : g i ≡ g n = ap g e in
+    omega arith)
     (λ (q : i < n).
-      let s = sum-slack n i f g q (λ k r. h k (omega arith)) in
-      let t = h n (omega arith) in
-      omega arith)
+    let s = sum-slack n i f g q (λ k r. h k (omega arith)) in
+    let t = h n (omega arith) in
+    omega arith)
     (eq-or-lt-of-le (le-of-suc-le-suc l))

@@ -59,18 +59,18 @@ fillIn n w i v = if hasCell n w i then (set (set w (cellIx n i) v) (lengthIx n i
 -- ---- appending
 
 -- a new chunk of m + 1 places, at the bump
+abbrev pub freshSpot : List ℕ → ℕ → Spot
+freshSpot w m = record { chunk = chunkOf m; base = bumpOf w; bump = bumpOf w + (m + 1); place = bumpOf w; length = m + 1 }
+
 unfoldable pub freshRoom : ℕ → List ℕ → ℕ → Room
-freshRoom n w m =
-    if leb (bumpOf w + (m + 1)) (arena n)
-    then At (record { chunk = chunkOf m; base = bumpOf w; bump = bumpOf w + (m + 1); place = bumpOf w; length = m + 1 })
-    else Full
+freshRoom n w m = if leb (bumpOf w + (m + 1)) (arena n) then At (freshSpot w m) else Full
 
 -- a place in the log's last chunk
+abbrev pub heldSpot : ℕ → List ℕ → ℕ → ℕ → Spot
+heldSpot n w i m = record { chunk = chunkOf m; base = baseOf n w i (chunkOf m); bump = bumpOf w; place = placeOf n w i m; length = m + 1 }
+
 unfoldable pub heldRoom : ℕ → List ℕ → ℕ → ℕ → Room
-heldRoom n w i m =
-    if ltb (placeOf n w i m) (arena n)
-    then At (record { chunk = chunkOf m; base = baseOf n w i (chunkOf m); bump = bumpOf w; place = placeOf n w i m; length = m + 1 })
-    else Full
+heldRoom n w i m = if ltb (placeOf n w i m) (arena n) then At (heldSpot n w i m) else Full
 
 -- where the next entry of a log goes, whose length was asked for
 unfoldable pub roomUnder : Looked → ℕ → List ℕ → ℕ → Room

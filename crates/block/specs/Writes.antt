@@ -1,0 +1,161 @@
+-- What the writing functions leave of a block: exactly the machine's change, and soundness where it was.
+-- Rests on Reads, Stores, Plans and Growth.
+use Prim.Native.Nat.{ℕ, _+_, _*_, _^_, _≤_, _<_}
+use mathlib.Core.Path.{_≡_, refl, sym, ap, ap₂, _∙_, subst}
+use mathlib.Core.Logic.{⊎-elim, inl, inr}
+use mathlib.Core.Bool.{Bool, true, false}
+use mathlib.Core.List.{List, [], _∷_, _++_}
+use native.Mathlib.Nat.{lt-of-lt-of-le}
+use native.Mathlib.Omega.{arith}
+use lib.ListN.{length, getD, set, length-set}
+use lib.Seq.{getD-set-same, getD-set-other}
+use borrow.Author.Tests.{le-leb, eq-eqb, ne-eqb}
+use Rattle.rulebook.specs.State.{Block, logAt, listTo, withVersion, withCell, withLog}
+use Rattle.rulebook.specs.Lists.{listTo-same, listTo-set}
+use Rattle.rulebook.specs.declared.Entry.{Entry}
+use Rattle.block.specs.declared.Exchanged.the-variants as exchanged
+use Rattle.block.specs.Layout.{cellIx, lengthIx, baseIx, versionOf, bumpOf, cellOf, lengthOf, placeOf, entryOf, Sized}
+use Rattle.block.specs.Words.{exchangeIn, writeIn, takeIn, fillIn}
+use Rattle.block.specs.Sound.{View, viewOf, logOf, blockOf, Sound, Laid, Filling}
+use Rattle.block.specs.Ways.{sized-block, block-cell}
+use Rattle.block.specs.Stores.{cells-left, lengths-left, places-left, entries-left, head-low, cell-low, cell-not-head, length-low, lengths-low, length-not-low, cell-apart, length-apart, head-in, cell-in, length-in}
+use Rattle.block.specs.Reads.{version-at, log-none}
+
+-- the words after a change, which block they are, and that they are sound if they were
+pub record Done (n : ℕ) (w w′ : List ℕ) (b : Block) : Type 0 where
+  pub sized : Sized n w′
+  pub block : blockOf n w′ ≡ b
+  pub laid : Laid n w → Laid n w′
+
+-- ---- a store before the directory
+
+pub set-sized : {n : ℕ} {w : List ℕ} (x a : ℕ) → Sized n w → Sized n (set w x a)
+set-sized {n} {w} x a s = record { some = s .some; few = s .few; long = length-set w x a ∙ s .long }
+
+module _ (n : ℕ) (w : List ℕ) (x a : ℕ) (low : x < lengthIx n 0) where
+  before : x < baseIx n 0 0
+  before = lt-of-lt-of-le low (lengths-low n)
+
+  logs-left : (i : ℕ) → logOf (viewOf n (set w x a)) i ≡ logOf (viewOf n w) i
+  logs-left i =
+      λ t. listTo (lengths-left n w x a low t i) (λ (j : ℕ). entries-left n w x a before t (places-left n w x a before t i j))
+
+  view-left : (x ≡ 1 → ⊥) → viewOf n (set w x a) ≡ viewOf n w
+  view-left d =
+      λ t. record {
+        bump = getD-set-other w x 1 a 0 (λ q. d (sym q)) t;
+        len = lengths-left n w x a low t;
+        place = places-left n w x a before t;
+        entry = entries-left n w x a before t;
+      }
+
+  laid-left : (x ≡ 1 → ⊥) → Laid n w → Laid n (set w x a)
+  laid-left d L = record { sized = set-sized x a (L .sized); sound = subst (λ (v : View). Sound n v) (sym (view-left d)) (L .sound) }
+
+module _ {n : ℕ} {w : List ℕ} (s : Sized n w) where
+  version-set : (a : ℕ) → Done n w (set w 0 a) (withVersion (blockOf n w) a)
+  unfolding blockOf withVersion
+  version-set a = record {
+    sized = set-sized 0 a s;
+    block = λ t. record {
+      version = getD-set-same w 0 a 0 (head-in s 0 (omega arith)) t;
+      cells = listTo n (cells-left n w 0 a (omega arith) t);
+      logs = listTo n (λ (i : ℕ). logs-left n w 0 a (head-low n 0 (omega arith)) i t);
+    };
+    laid = laid-left n w 0 a (head-low n 0 (omega arith)) (λ q. omega arith);
+  }
+
+  bump-set : (a : ℕ) → blockOf n (set w 1 a) ≡ blockOf n w
+  unfolding blockOf
+  bump-set a =
+      λ t. record {
+        version = getD-set-other w 1 0 a 0 (λ q. omega arith) t;
+        cells = listTo n (cells-left n w 1 a (omega arith) t);
+        logs = listTo n (λ (i : ℕ). logs-left n w 1 a (head-low n 1 (omega arith)) i t);
+      }
+
+  module _ (i : ℕ) (h : i < n) where
+    cell-set : (a : ℕ) → Done n w (set w (cellIx n i) a) (withCell (blockOf n w) i a)
+    unfolding blockOf withCell
+    cell-set a = record {
+      sized = set-sized (cellIx n i) a s;
+      block = λ t. record {
+        version = getD-set-other w (cellIx n i) 0 a 0 (cell-not-head n i 0 (omega arith)) t;
+        cells =
+            listTo-set 0 n i (cellOf n w) (cellOf n (set w (cellIx n i) a)) a h (getD-set-same w (cellIx n i) a 0 (cell-in s i h))
+            (λ k l d. getD-set-other w (cellIx n i) (cellIx n k) a 0 (cell-apart n i k d)) t;
+        logs = listTo n (λ (k : ℕ). logs-left n w (cellIx n i) a (cell-low n i h) k t);
+      };
+      laid = laid-left n w (cellIx n i) a (cell-low n i h) (λ q. cell-not-head n i 1 (omega arith) (sym q));
+    }
+
+    -- a length of 0 empties the log
+    log-emptied : blockOf n (set w (lengthIx n i) 0) ≡ withLog (blockOf n w) i []
+    unfolding blockOf withLog
+    log-emptied =
+        λ t. record {
+          version = getD-set-other w (lengthIx n i) 0 0 0 (length-not-low n i 0 (head-low n 0 (omega arith))) t;
+          cells = listTo-same n (cellOf n (set w (lengthIx n i) 0)) (cellOf n w) (λ k l. getD-set-other w (lengthIx n i) (cellIx n k) 0 0 (length-not-low n i (cellIx n k) (cell-low n k l))) t;
+          logs = listTo-set [] n i (logOf (viewOf n w)) (logOf (viewOf n (set w (lengthIx n i) 0))) [] h (log-none (viewOf n (set w (lengthIx n i) 0)) i (getD-set-same w (lengthIx n i) 0 0 (length-in s i h))) others t;
+        }
+      where
+        others : (k : ℕ) → k < n → (k ≡ i → ⊥) → logOf (viewOf n (set w (lengthIx n i) 0)) k ≡ logOf (viewOf n w) k
+        others k l d =
+            λ t. listTo (getD-set-other w (lengthIx n i) (lengthIx n k) 0 0 (length-apart n i k d) t)
+            (λ (j : ℕ). entries-left n w (lengthIx n i) 0 (length-low n i h) t (places-left n w (lengthIx n i) 0 (length-low n i h) t k j))
+
+-- ---- what each function does on the words of a block
+
+module _ {n : ℕ} {w : List ℕ} (s : Sized n w) where
+  pub exchange-is : (l : ℕ) → versionOf w ≡ l → l ≤ n → exchangeIn n w l ≡ (set w 0 (l + 1), exchanged.Raised)
+  unfolding exchangeIn
+  exchange-is l e h = simp (sized-block n w s, eq-eqb _ _ e, le-leb _ _ h)
+
+  pub write-is : (i v : ℕ) → i < n → writeIn n w i v ≡ (set w (cellIx n i) v, true)
+  unfolding writeIn
+  write-is i v h = simp (block-cell n w i s h)
+
+  pub take-is : takeIn n w ≡ (set (set w 0 0) 1 0, true)
+  unfolding takeIn
+  take-is = simp (sized-block n w s)
+
+  pub fill-is : (i v : ℕ) → i < n → fillIn n w i v ≡ (set (set w (cellIx n i) v) (lengthIx n i) 0, true)
+  unfolding fillIn
+  fill-is i v h = simp (block-cell n w i s h)
+
+  -- ---- the laws
+
+  -- V = l: V is raised, and nothing else changes
+  pub exchange-first : (l : ℕ) → blockOf n w .version ≡ l → l ≤ n
+      → (exchangeIn n w l .1 ≡ exchanged.Raised) × Done n w (exchangeIn n w l .0) (withVersion (blockOf n w) (l + 1))
+  exchange-first l e h = rw (exchange-is l (sym (version-at n w) ∙ e) h) (refl, version-set s (l + 1))
+
+  -- V differs: nothing changes
+  pub exchange-later : (l : ℕ) → (blockOf n w .version ≡ l → ⊥) → exchangeIn n w l ≡ (w, exchanged.Same)
+  unfolding exchangeIn
+  exchange-later l d = simp (sized-block n w s, ne-eqb (versionOf w) l (λ q. d (version-at n w ∙ q)))
+
+  pub write-done : (i v : ℕ) → i < n → (writeIn n w i v .1 ≡ true) × Done n w (writeIn n w i v .0) (withCell (blockOf n w) i v)
+  write-done i v h = rw (write-is i v h) (refl, cell-set s i h v)
+
+  -- V = 0, and a block in which no cell is filled yet
+  pub take-done : (takeIn n w .1 ≡ true) × (blockOf n (takeIn n w .0) ≡ withVersion (blockOf n w) 0) × Filling 0 n (takeIn n w .0)
+  take-done =
+      rw take-is (
+        refl,
+        bump-set (set-sized 0 0 s) 0 ∙ version-set s 0 .block,
+        record {
+          sized = set-sized 1 0 (set-sized 0 0 s);
+          bump = getD-set-same (set w 0 0) 1 0 0 (head-in (set-sized 0 0 s) 1 (omega arith));
+          empty = λ i h. absurd (omega arith);
+        },
+      )
+
+  pub fill-done : (i v : ℕ) → i < n
+      → (fillIn n w i v .1 ≡ true) × Sized n (fillIn n w i v .0) × (blockOf n (fillIn n w i v .0) ≡ withLog (withCell (blockOf n w) i v) i [])
+  fill-done i v h =
+      rw (fill-is i v h) (
+        refl,
+        set-sized (lengthIx n i) 0 (set-sized (cellIx n i) v s),
+        log-emptied (set-sized (cellIx n i) v s) i h ∙ ap (λ (b : Block). withLog b i []) (cell-set s i h v .block),
+      )
