@@ -16,8 +16,8 @@ use Rattle.rulebook.specs.Tests.{by-test}
 use Rattle.rulebook.specs.Lists.{listTo-same, listTo-get, listTo-set}
 use Rattle.rulebook.specs.declared.Entry.{Entry}
 use Rattle.block.specs.declared.Looked.the-variants as looked
-use Rattle.block.specs.declared.Spot.{Spot}
-use Rattle.block.specs.declared.Room.the-variants.{At}
+use Rattle.block.specs.declared.change.Spot.{Spot}
+use Rattle.block.specs.declared.change.Room.the-variants.{At}
 use Rattle.block.specs.Layout.{arena, chunkOf, offsetOf, spaceOf, bumpOf, cellOf, lengthOf, baseOf, placeOf, Sized}
 use Rattle.block.specs.Words.{lengthIn, freshSpot, freshRoom, heldSpot, heldRoom, roomUnder, roomIn, stored, appendAt, appendIn}
 use Rattle.block.specs.Sound.{View, viewOf, logOf, blockOf, sumTo, entriesIn, Sound, Laid}

@@ -13,3 +13,6 @@ pub mod Reads
 pub mod Writes
 pub mod Fills
 pub mod Appends
+pub mod Marks
+pub mod Walk
+pub mod Rows

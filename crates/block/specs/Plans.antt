@@ -13,9 +13,9 @@ use Rattle.rulebook.specs.Sizes.{mostCells, blockWords, directoryWidth}
 use Rattle.rulebook.specs.Tests.{by-test}
 use Rattle.block.specs.declared.Looked.{Looked}
 use Rattle.block.specs.declared.Looked.the-variants as looked
-use Rattle.block.specs.declared.Spot.{Spot}
-use Rattle.block.specs.declared.Room.{Room}
-use Rattle.block.specs.declared.Room.the-variants.{At, Full}
+use Rattle.block.specs.declared.change.Spot.{Spot}
+use Rattle.block.specs.declared.change.Room.{Room}
+use Rattle.block.specs.declared.change.Room.the-variants.{At, Full}
 use Rattle.block.specs.Layout.{lengthIx, baseIx, entryIx, arena, chunkOf, offsetOf, bumpOf, lengthOf, baseOf, placeOf, Sized}
 use Rattle.block.specs.Words.{lengthIn, freshSpot, freshRoom, heldSpot, heldRoom, roomUnder, roomIn, stored, appendAt, appendIn}
 use Rattle.block.specs.Rooms.{length-told, told-reach}

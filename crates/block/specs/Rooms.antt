@@ -15,9 +15,9 @@ use Rattle.rulebook.specs.declared.Entry.{Entry}
 use Rattle.block.specs.declared.Looked.{Looked}
 use Rattle.block.specs.declared.Looked.the-variants as looked
 use Rattle.block.specs.declared.Probed.the-variants as probed
-use Rattle.block.specs.declared.Spot.{Spot}
-use Rattle.block.specs.declared.Room.{Room}
-use Rattle.block.specs.declared.Room.the-variants.{At, Full}
+use Rattle.block.specs.declared.change.Spot.{Spot}
+use Rattle.block.specs.declared.change.Room.{Room}
+use Rattle.block.specs.declared.change.Room.the-variants.{At, Full}
 use Rattle.block.specs.Layout.{lengthIx, baseIx, entryIx, arena, chunkOf, offsetOf, bumpOf, lengthOf, baseOf, placeOf, hasCell, Sized, Reach}
 use Rattle.block.specs.Words.{lengthIn, entryUnder, entryIn, freshRoom, heldRoom, roomUnder, roomIn, stored, appendAt, appendIn}
 use Rattle.block.specs.Ways.{cell-block}

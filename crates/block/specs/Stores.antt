@@ -8,7 +8,7 @@ use lib.ListN.{length, getD, set, length-set}
 use lib.Seq.{getD-set-same, getD-set-other}
 use Rattle.rulebook.specs.Sizes.{blockWords, directoryWidth}
 use Rattle.rulebook.specs.declared.Entry.{Entry}
-use Rattle.block.specs.declared.Spot.{Spot}
+use Rattle.block.specs.declared.change.Spot.{Spot}
 use Rattle.block.specs.Layout.{cellIx, lengthIx, baseIx, entryIx, arena, chunkOf, offsetOf, versionOf, bumpOf, cellOf, lengthOf, baseOf, placeOf, entryOf, Sized}
 use Rattle.block.specs.Words.{stored}
 

@@ -13,9 +13,9 @@ use Rattle.block.specs.declared.Probed.{Probed}
 use Rattle.block.specs.declared.Probed.the-variants as probed
 use Rattle.block.specs.declared.Exchanged.{Exchanged}
 use Rattle.block.specs.declared.Exchanged.the-variants as exchanged
-use Rattle.block.specs.declared.Spot.{Spot}
-use Rattle.block.specs.declared.Room.{Room}
-use Rattle.block.specs.declared.Room.the-variants.{At, Full}
+use Rattle.block.specs.declared.change.Spot.{Spot}
+use Rattle.block.specs.declared.change.Room.{Room}
+use Rattle.block.specs.declared.change.Room.the-variants.{At, Full}
 use Rattle.block.specs.Layout.{cellIx, lengthIx, baseIx, entryIx, arena, chunkOf, offsetOf, versionOf, bumpOf, cellOf, lengthOf, baseOf, placeOf, entryOf, isBlock, hasCell}
 
 -- ---- reading

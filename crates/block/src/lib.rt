@@ -1,11 +1,20 @@
 // One block's words, a lent part of the pool: V, the cells, and a log for each cell in chunks that double.
-// No function asks anything of the words: a number outside the block or its layout is answered, and changes nothing.
+// No public function asks anything of the words: a number outside the block or its layout is answered, and changes nothing.
+mod change;
+mod walk;
+
+pub use change::append;
+pub use change::exchange;
+pub use change::fill;
+pub use change::take;
+pub use change::write;
 use rulebook::Entry;
+pub use walk::laid;
 ghost use mathlib.Core.Path.{_≡_};
 ghost use Prim.Native.Nat.{_+_, _≤_, _<_};
 ghost use Rattle.rulebook.specs.Sizes.{mostCells, blockWords, directoryWidth};
 ghost use Rattle.block.specs.Layout.{cellIx, lengthIx, baseIx, entryIx, arena, chunkOf, offsetOf, placeOf, spaceOf, isBlock, hasCell, Sized, Reach, Lies};
-ghost use Rattle.block.specs.Words.{versionIn, cellIn, lengthIn, entryIn, exchangeIn, writeIn, takeIn, fillIn, freshRoom, heldRoom, roomIn, appendIn};
+ghost use Rattle.block.specs.Words.{versionIn, cellIn, lengthIn, entryIn};
 
 // A word that was asked for, or that there is none.
 pub enum Looked {
@@ -23,20 +32,6 @@ pub enum Exchanged {
     Raised,
     Same,
     Bad,
-}
-
-// What an append writes: the chunk's base, the bump, the arena's place and the log's length.
-pub struct Spot {
-    pub chunk: u32,
-    pub base: u32,
-    pub bump: u32,
-    pub place: usize,
-    pub length: u32,
-}
-
-pub enum Room {
-    At(Spot),
-    Full,
 }
 
 fn wide(x: u32) -> usize
@@ -195,134 +190,4 @@ pub fn entry(b: &[u32], n: u32, i: u32, j: u32) -> Probed
         version: b[at],
         old: b[at + 1],
     })
-}
-
-// ---- writing
-
-// If V = l, V becomes l + 1.
-pub fn exchange(b: &mut [u32], n: u32, l: u32) -> Exchanged
-    ensures { λ r. ⌜ (now (b .exit), r) ≡ exchangeIn n (now (b .entry)) l ⌝ }
-{
-    if !sized(b, n) {
-        return Exchanged::Bad;
-    }
-    if b[0] != l {
-        return Exchanged::Same;
-    }
-    if n < l {
-        return Exchanged::Bad;
-    }
-    b[0] = l + 1;
-    Exchanged::Raised
-}
-
-pub fn write(b: &mut [u32], n: u32, i: u32, v: u32) -> bool
-    ensures { λ r. ⌜ (now (b .exit), r) ≡ writeIn n (now (b .entry)) i v ⌝ }
-{
-    if !has_cell(b, n, i) {
-        return false;
-    }
-    let at = cell_at(n, i);
-    b[at] = v;
-    true
-}
-
-// A block that is taken has V = 0 and nothing in its arena.
-pub fn take(b: &mut [u32], n: u32) -> bool
-    ensures { λ r. ⌜ (now (b .exit), r) ≡ takeIn n (now (b .entry)) ⌝ }
-{
-    if !sized(b, n) {
-        return false;
-    }
-    b[0] = 0;
-    b[1] = 0;
-    true
-}
-
-// Writes a cell of a block being filled, and empties its log.
-pub fn fill(b: &mut [u32], n: u32, i: u32, v: u32) -> bool
-    ensures { λ r. ⌜ (now (b .exit), r) ≡ fillIn n (now (b .entry)) i v ⌝ }
-{
-    if !has_cell(b, n, i) {
-        return false;
-    }
-    let c = cell_at(n, i);
-    let m = length_at(n, i);
-    b[c] = v;
-    b[m] = 0;
-    true
-}
-
-// ---- appending
-
-// A new chunk for entry m, at the bump.
-fn fresh_room(b: &[u32], n: u32, m: u32) -> Room
-    requires { ⌜ Sized n (now b) × (m < n) ⌝ }
-    ensures { λ r. ⌜ r ≡ freshRoom n (now (b .entry)) m ⌝ }
-{
-    let u = b[1];
-    let at = wide(u);
-    if places(n) < at + wide(m + 1) {
-        return Room::Full;
-    }
-    Room::At(Spot {
-        chunk: chunk(m),
-        base: u,
-        bump: u + (m + 1),
-        place: at,
-        length: m + 1,
-    })
-}
-
-// Entry m's place in a chunk that the log has.
-fn held_room(b: &[u32], n: u32, i: u32, m: u32) -> Room
-    requires { ⌜ Reach n (now b) i m ⌝ }
-    ensures { λ r. ⌜ r ≡ heldRoom n (now (b .entry)) i m ⌝ }
-{
-    let p = place(b, n, i, m);
-    if places(n) <= p {
-        return Room::Full;
-    }
-    let c = chunk(m);
-    let at = base_at(n, i, c);
-    Room::At(Spot {
-        chunk: c,
-        base: b[at],
-        bump: b[1],
-        place: p,
-        length: m + 1,
-    })
-}
-
-// Where the next entry of cell i's log goes.
-fn find_room(b: &[u32], n: u32, i: u32) -> Room
-    ensures { λ r. ⌜ r ≡ roomIn n (now (b .entry)) i ⌝ }
-{
-    let Looked::Word(m) = log_length(b, n, i) else {
-        return Room::Full;
-    };
-    if n <= m {
-        return Room::Full;
-    }
-    if offset(m) == 0 {
-        return fresh_room(b, n, m);
-    }
-    held_room(b, n, i, m)
-}
-
-pub fn append(b: &mut [u32], n: u32, i: u32, version: u32, old: u32) -> bool
-    ensures { λ r. ⌜ (now (b .exit), r) ≡ appendIn n (now (b .entry)) i version old ⌝ }
-{
-    let Room::At(s) = find_room(b, n, i) else {
-        return false;
-    };
-    let at = base_at(n, i, s.chunk);
-    let e = entry_at(n, s.place);
-    let m = length_at(n, i);
-    b[at] = s.base;
-    b[1] = s.bump;
-    b[e] = version;
-    b[e + 1] = old;
-    b[m] = s.length;
-    true
 }

@@ -1,7 +1,7 @@
 use Rattle.block.specs.Outs.{exchanges, first-in}
 use borrow.Author.Needs.{needs}
-use Rattle.block.proofs.exchange.Statement.{statement}
-use Rattle.block.proofs.exchange.Tie as tie
+use Rattle.block.proofs.change.exchange.Statement.{statement}
+use Rattle.block.proofs.change.exchange.Tie as tie
 
 pub exchange-spec : {M : Type 1} → statement M
 exchange-spec =

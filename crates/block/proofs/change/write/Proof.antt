@@ -1,21 +1,17 @@
-use lib.ListN.{length-set}
 use Rattle.block.specs.Outs.{cells}
 use borrow.Author.Needs.{needs}
-use Rattle.block.proofs.fill.Statement.{statement}
-use Rattle.block.proofs.fill.Tie as tie
+use Rattle.block.proofs.change.write.Statement.{statement}
+use Rattle.block.proofs.change.write.Tie as tie
 
-pub fill-spec : {M : Type 1} → statement M
-fill-spec =
+pub write-spec : {M : Type 1} → statement M
+write-spec =
     tie.close
     (tie.spec
     (λ c κs. search (needs, cells))
     (λ c. search (needs, cells))
     (λ c. search (needs, cells))
     (λ c κs. search (needs, cells))
-    (λ c κs. search (needs, cells))
     (λ c. search (needs, cells))
     (λ c. search (needs, cells))
-    (λ c. search (needs, cells))
-    (λ c. simp length-set (search (needs, cells)))
     (λ c. search (needs, cells))
     (λ c. search (needs, cells)))

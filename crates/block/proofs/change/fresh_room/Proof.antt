@@ -1,7 +1,7 @@
 use Rattle.block.specs.Rooms.{spots}
 use borrow.Author.Needs.{needs}
-use Rattle.block.proofs.fresh_room.Statement.{statement}
-use Rattle.block.proofs.fresh_room.Tie as tie
+use Rattle.block.proofs.change.fresh_room.Statement.{statement}
+use Rattle.block.proofs.change.fresh_room.Tie as tie
 
 pub fresh-room-spec : {M : Type 1} → statement M
 fresh-room-spec =

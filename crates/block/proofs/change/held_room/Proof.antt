@@ -1,7 +1,7 @@
 use Rattle.block.specs.Rooms.{spots}
 use borrow.Author.Needs.{needs}
-use Rattle.block.proofs.held_room.Statement.{statement}
-use Rattle.block.proofs.held_room.Tie as tie
+use Rattle.block.proofs.change.held_room.Statement.{statement}
+use Rattle.block.proofs.change.held_room.Tie as tie
 
 pub held-room-spec : {M : Type 1} → statement M
 held-room-spec =

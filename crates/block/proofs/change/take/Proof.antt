@@ -1,7 +1,7 @@
 use Rattle.block.specs.Outs.{blocks}
 use borrow.Author.Needs.{needs}
-use Rattle.block.proofs.take.Statement.{statement}
-use Rattle.block.proofs.take.Tie as tie
+use Rattle.block.proofs.change.take.Statement.{statement}
+use Rattle.block.proofs.change.take.Tie as tie
 
 pub take-spec : {M : Type 1} → statement M
 take-spec =

@@ -1,7 +1,7 @@
 use Rattle.block.specs.Rooms.{rooms}
 use borrow.Author.Needs.{needs}
-use Rattle.block.proofs.find_room.Statement.{statement}
-use Rattle.block.proofs.find_room.Tie as tie
+use Rattle.block.proofs.change.find_room.Statement.{statement}
+use Rattle.block.proofs.change.find_room.Tie as tie
 
 pub find-room-spec : {M : Type 1} → statement M
 find-room-spec =

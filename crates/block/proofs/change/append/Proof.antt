@@ -1,8 +1,8 @@
 use lib.ListN.{length-set}
 use Rattle.block.specs.Plans.{appends}
 use borrow.Author.Needs.{needs}
-use Rattle.block.proofs.append.Statement.{statement}
-use Rattle.block.proofs.append.Tie as tie
+use Rattle.block.proofs.change.append.Statement.{statement}
+use Rattle.block.proofs.change.append.Tie as tie
 
 pub append-spec : {M : Type 1} → statement M
 append-spec =

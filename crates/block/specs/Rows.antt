@@ -1,0 +1,238 @@
+-- The walk's invariants, and what each way through it owes: rules for the proofs of `mark_row` and `laid`.
+-- Rests on Walk, Chunks and Ways.
+use Prim.Native.Nat.{ℕ, suc, _+_, _*_, _-_, _≤_, _<_}
+use mathlib.Core.Path.{_≡_, refl, sym, ap, _∙_, subst}
+use mathlib.Core.Logic.{inl, ⊎-elim}
+use mathlib.Core.Bool.{Bool, true, false, not, true≢false, false≢true}
+use mathlib.Core.List.{List}
+use native.Mathlib.Numerals.{add-one}
+use native.Mathlib.Omega.{arith}
+use lib.ListN.{length, getD, set, replicate, length-replicate, getD-replicate}
+use lib.Dec.{eqb}
+use borrow.Author.Tests.{not-true, not-false, eqb-true, eqb-false}
+use borrow.Author.Count.{below-more}
+use Rattle.rulebook.specs.Sizes.{mostCells, blockWords}
+use Rattle.block.specs.declared.walk.Row.{Row}
+use Rattle.block.specs.declared.walk.Row.the-variants.{Marked, Broken}
+use Rattle.block.specs.Layout.{lengthIx, arena, spaceOf, bumpOf, lengthOf, placeOf, isBlock, Sized, Reach}
+use Rattle.block.specs.Sound.{viewOf, sumTo, Sound, Laid}
+use Rattle.block.specs.Ways.{block-sized, sized-block}
+use Rattle.block.specs.Chunks.{width-holds}
+use Rattle.block.specs.Marks.{Walked, Before, walk-start, walk-step, walk-row}
+use Rattle.block.specs.Walk.{Decides, countOf, Marks, RowIn, RowDone, RowOut}
+
+-- ---- a row
+
+-- in row i, at place j
+pub record RowAt (n : ℕ) (w : List ℕ) (limit i m all : ℕ) (marks : List Bool) (j : ℕ) : Type 0 where
+  pub sized : Sized n w
+  pub cell : i < n
+  pub bump : limit ≡ bumpOf w
+  pub fits : limit ≤ 8192
+  pub is : m ≡ lengthOf n w i
+  pub short : m ≤ n
+  pub space : all ≡ spaceOf m
+  pub few : all ≤ 8191
+  pub most : j ≤ all
+  pub walked : Marks n w marks i j
+  pub below : (t : ℕ) → t < j → placeOf n w i t < bumpOf w
+
+broken : {n : ℕ} {w : List ℕ} {i : ℕ} {marks : List Bool} → (Sound n (viewOf n w) → ⊥) → RowOut Broken n w i marks
+broken h = record { done = λ k q. (let z : _≡_ {A = ℕ} 0 1 = cc in absurd (omega arith)); no = λ _. h }
+
+module _ {n : ℕ} {w : List ℕ} {limit i : ℕ} {marks : List Bool} (r : RowIn n w limit i marks) where
+  module _ (x : ℕ) (e : x ≡ lengthIx n i) where
+    pub row-long : n < getD w x 0 → RowOut Broken n w i marks
+    row-long h = broken (λ s. let a = s .short i (r .cell) in let l : n < lengthOf n w i = rw e at h in omega arith)
+
+    pub row-start : (all : ℕ) → getD w x 0 ≤ n → all ≡ spaceOf (getD w x 0) → all ≤ 8191 → RowAt n w limit i (getD w x 0) all marks 0
+    row-start all h a f = record {
+      sized = r .sized;
+      cell = r .cell;
+      bump = r .bump;
+      fits = r .fits;
+      is = ap (λ (y : ℕ). getD w y 0) e;
+      short = h;
+      space = a;
+      few = f;
+      most = omega arith;
+      walked = r .walked;
+      below = λ t l. absurd (omega arith);
+    }
+
+module _ {n : ℕ} {w : List ℕ} {limit i m all : ℕ} {marks : List Bool} {j : ℕ} (r : RowAt n w limit i m all marks j) where
+  counted : all ≡ countOf n w i
+  counted = r .space ∙ ap spaceOf (r .is)
+
+  module _ (h : j < all) where
+    pub row-reach : Reach n w i j
+    row-reach =
+        let f = r .few in
+        record { sized = r .sized; cell = r .cell; small = omega arith; chunk = width-holds n m j (r .sized .few) (r .short) (subst (λ (x : ℕ). j < x) (r .space) h) }
+
+    mine : j < countOf n w i
+    mine = subst (λ (x : ℕ). j < x) counted h
+
+    module _ (p : ℕ) (e : p ≡ placeOf n w i j) where
+      pub row-outside : limit ≤ p → RowOut Broken n w i marks
+      row-outside l = broken (λ s. let a = s .below i j (r .cell) mine in let b = r .bump in omega arith)
+
+      module _ (l : p < limit) where
+        inside : placeOf n w i j < 8192
+        inside = let f = r .fits in omega arith
+
+        pub row-twice : getD marks p false ≡ true → RowOut Broken n w i marks
+        row-twice z =
+            let m = r .walked .marked (placeOf n w i j) inside (sym (ap (λ (x : ℕ). getD marks x false) e) ∙ z) in
+            broken (λ s.
+            ⊎-elim
+            (λ (x : m .0 < i).
+            let c = r .cell in
+            let o = s .once (m .0) (m .1) i j (omega arith) c (m .2 .0) mine (m .3) in
+            omega (arith, o .0))
+            (λ (x : (m .0 ≡ i) × (m .1 < j)).
+            let c = r .cell in
+            let o = s .once (m .0) (m .1) i j (omega (arith, x .0)) c (m .2 .0) mine (m .3) in
+            omega (arith, o .1, x .1))
+            (m .2 .1))
+
+        pub row-step : getD marks p false ≡ false → RowAt n w limit i m all (set marks p true) (j + 1)
+        row-step z = record {
+          sized = r .sized;
+          cell = r .cell;
+          bump = r .bump;
+          fits = r .fits;
+          is = r .is;
+          short = r .short;
+          space = r .space;
+          few = r .few;
+          most = omega arith;
+          walked =
+              subst (λ (x : ℕ). Marks n w (set marks x true) i (j + 1)) (sym e)
+              (walk-step (countOf n w) (placeOf n w) (r .walked) mine inside (sym (ap (λ (x : ℕ). getD marks x false) e) ∙ z));
+          below = below-more (λ (t : ℕ). placeOf n w i t < bumpOf w) j (r .below) (let b = r .bump in omega arith);
+        }
+
+  pub row-done : all ≤ j → RowOut (Marked all) n w i marks
+  row-done l = record {
+    done = λ k q.
+        let e : k ≡ all = cc in
+        rw e (record {
+          all = counted;
+          few = r .few;
+          short = subst (λ (x : ℕ). x ≤ n) (r .is) (r .short);
+          below = λ t h. r .below t (let c = counted in omega arith);
+          walked = walk-row (countOf n w) (placeOf n w) (r .walked) (let c = counted in omega arith);
+        });
+    no = λ q. (let z : _≡_ {A = ℕ} 0 1 = cc in absurd (omega arith));
+  }
+
+-- ---- the rows
+
+-- before row i, with the places of the rows before it counted
+pub record RowsAt (n : ℕ) (w : List ℕ) (bump : ℕ) (marks : List Bool) (taken i : ℕ) : Type 0 where
+  pub sized : Sized n w
+  pub is : bump ≡ bumpOf w
+  pub room : bump ≤ arena n
+  pub fits : bump ≤ 8192
+  pub most : i ≤ n
+  pub walked : Marks n w marks i 0
+  pub short : (k : ℕ) → k < i → lengthOf n w k ≤ n
+  pub below : (k : ℕ) → k < i → (j : ℕ) → j < countOf n w k → placeOf n w k j < bumpOf w
+  pub tally : taken ≡ sumTo i (countOf n w)
+  pub small : taken ≤ 8191 * i
+
+undone : {P : Type 0} → (P → ⊥) → Decides false P
+undone h = record { yes = λ q. absurd (false≢true q); no = λ _. h }
+
+-- after the test of the slice
+module _ (r : Bool) (n : ℕ) (w : List ℕ) (e : r ≡ isBlock n w) where
+  pub rows-unsized : not r ≡ true → Decides false (Laid n w)
+  rows-unsized h = undone (λ L. true≢false (sym (sized-block n w (L .sized)) ∙ sym e ∙ not-true r h))
+
+  module _ (h : not r ≡ false) where
+    whole : Sized n w
+    whole = block-sized n w (sym e ∙ not-false r h)
+
+    pub rows-few : n ≤ mostCells
+    rows-few = whole .few
+
+    pub rows-bump : 1 < length w
+    unfolding blockWords
+    rows-bump = let s = whole in omega arith
+
+    module _ (bump a : ℕ) (is : bump ≡ bumpOf w) (all : a ≡ arena n) where
+      pub rows-past : a < bump → Decides false (Laid n w)
+      rows-past l = undone (λ L. let f = L .sound .fits in omega arith)
+
+      pub rows-start : bump ≤ a → a ≤ 8192 → RowsAt n w bump (replicate 8192 false) 0 0
+      rows-start l f = record {
+        sized = whole;
+        is = is;
+        room = omega arith;
+        fits = omega arith;
+        most = omega arith;
+        walked =
+            walk-start (countOf n w) (placeOf n w) 8192 (replicate 8192 false) (length-replicate {A = Bool} 8192 false)
+            (λ p q. getD-replicate {A = Bool} 8192 p false false q);
+        short = λ k q. absurd (omega arith);
+        below = λ k q. absurd (omega arith);
+        tally = refl;
+        small = omega arith;
+      }
+
+module _ {n : ℕ} {w : List ℕ} {bump : ℕ} {marks : List Bool} {taken i : ℕ} (a : RowsAt n w bump marks taken i) where
+  module _ (h : i < n) where
+    pub rows-in : RowIn n w bump i marks
+    rows-in = record { sized = a .sized; cell = h; bump = a .is; fits = a .fits; walked = a .walked }
+
+    module _ (marks′ : List Bool) (r : Row) (o : RowOut r n w i marks′) where
+      pub rows-broken : r ≡ Broken → Decides false (Laid n w)
+      rows-broken q = undone (λ L. o .no q (L .sound))
+
+      module _ (k : ℕ) (q : r ≡ Marked k) where
+        pub rows-few-more : taken + k < 4294967296
+        rows-few-more = let d = o .done k q .few in let s = a .small in let f = a .sized .few in omega arith
+
+        pub rows-step : RowsAt n w bump marks′ (taken + k) (i + 1)
+        rows-step =
+            let d = o .done k q in
+            record {
+              sized = a .sized;
+              is = a .is;
+              room = a .room;
+              fits = a .fits;
+              most = omega arith;
+              walked = d .walked;
+              short = below-more (λ (k : ℕ). lengthOf n w k ≤ n) i (a .short) (d .short);
+              below = below-more (λ (k : ℕ). (j : ℕ) → j < countOf n w k → placeOf n w k j < bumpOf w) i (a .below) (d .below);
+              tally =
+                  (let e : sumTo (i + 1) (countOf n w) ≡ sumTo (suc i) (countOf n w) = ap (λ (x : ℕ). sumTo x (countOf n w)) (add-one i) in
+                  let t = a .tally in
+                  let c = d .all in
+                  omega arith);
+              small = let s = a .small in let f = d .few in omega arith;
+            }
+
+  pub rows-done : n ≤ i → (t : ℕ) → t ≡ taken → Decides (eqb t bump) (Laid n w)
+  rows-done h t e =
+      let last : i ≡ n = (let m = a .most in omega arith) in
+      let sum : taken ≡ sumTo n (countOf n w) = a .tally ∙ ap (λ (x : ℕ). sumTo x (countOf n w)) last in
+      let b = a .is in
+      record {
+        yes = λ q.
+            let z : t ≡ bump = eqb-true t bump q in
+            record {
+              sized = a .sized;
+              sound = record {
+                short = λ k l. a .short k (omega arith);
+                below = λ k j l. a .below k (omega arith) j;
+                once = λ k j l u g g′ c c′. a .walked .once k j l u (c, inl (omega arith)) (c′, inl (omega arith));
+                tally = omega arith;
+                fits = let f = a .room in omega arith;
+              };
+            };
+        no = λ q L. eqb-false t bump q (let y = L .sound .tally in omega arith);
+      }
+
+pub ruleset starts = (rows-unsized, rows-few, rows-bump, rows-past, rows-start)

@@ -1,0 +1,42 @@
+-- What the walk over a block's places decides, from row to row.
+-- Rests on Marks and Sound.
+use Prim.Native.Nat.{ℕ, _+_, _*_, _≤_, _<_}
+use mathlib.Core.Path.{_≡_}
+use mathlib.Core.Bool.{Bool, true, false}
+use mathlib.Core.List.{List}
+use Rattle.block.specs.declared.walk.Row.{Row}
+use Rattle.block.specs.declared.walk.Row.the-variants.{Marked, Broken}
+use Rattle.block.specs.Layout.{arena, spaceOf, bumpOf, lengthOf, placeOf, Sized}
+use Rattle.block.specs.Sound.{viewOf, Sound}
+use Rattle.block.specs.Marks.{Walked}
+
+-- a function's answer decides P
+pub record Decides (r : Bool) (P : Type 0) : Type 0 where
+  pub yes : r ≡ true → P
+  pub no : r ≡ false → P → ⊥
+
+-- the places of cell k's log, and the walk over them
+abbrev pub countOf : ℕ → List ℕ → ℕ → ℕ
+countOf n w k = spaceOf (lengthOf n w k)
+
+abbrev pub Marks : ℕ → List ℕ → List Bool → ℕ → ℕ → Type 0
+Marks n w marks i j = Walked (countOf n w) (placeOf n w) 8192 marks i j
+
+pub record RowIn (n : ℕ) (w : List ℕ) (limit i : ℕ) (marks : List Bool) : Type 0 where
+  pub sized : Sized n w
+  pub cell : i < n
+  pub bump : limit ≡ bumpOf w
+  pub fits : limit ≤ 8192
+  pub walked : Marks n w marks i 0
+
+-- row i has k places, all inside and none marked before
+pub record RowDone (k n : ℕ) (w : List ℕ) (i : ℕ) (marks : List Bool) : Type 0 where
+  pub all : k ≡ countOf n w i
+  pub few : k ≤ 8191
+  pub short : lengthOf n w i ≤ n
+  pub below : (j : ℕ) → j < countOf n w i → placeOf n w i j < bumpOf w
+  pub walked : Marks n w marks (i + 1) 0
+
+pub record RowOut (r : Row) (n : ℕ) (w : List ℕ) (i : ℕ) (marks : List Bool) : Type 0 where
+  pub done : (k : ℕ) → r ≡ Marked k → RowDone k n w i marks
+  pub no : r ≡ Broken → Sound n (viewOf n w) → ⊥
