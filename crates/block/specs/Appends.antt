@@ -20,14 +20,13 @@ use Rattle.block.specs.declared.change.Spot.{Spot}
 use Rattle.block.specs.declared.change.Room.the-variants.{At}
 use Rattle.block.specs.Layout.{arena, chunkOf, offsetOf, spaceOf, bumpOf, cellOf, lengthOf, baseOf, placeOf, Sized}
 use Rattle.block.specs.Words.{lengthIn, freshSpot, freshRoom, heldSpot, heldRoom, roomUnder, roomIn, stored, appendAt, appendIn}
-use Rattle.block.specs.Sound.{View, viewOf, logOf, blockOf, sumTo, entriesIn, Sound, Laid}
+use Rattle.block.specs.Sound.{View, viewOf, logOf, blockOf, sumTo, entriesIn, Sound, Laid, Done}
 use Rattle.block.specs.Sums.{sum-at, sum-slack}
 use Rattle.block.specs.Chunks.{space-most, space-least, fresh-before, fresh-chunk, fresh-offset, fresh-new, held-after, width-holds}
 use Rattle.block.specs.Plans.{Fresh, Held, Planned, room-planned, planned-wide}
 use Rattle.block.specs.Growth.{Opened, Stayed, Grown, grown-sound, grown-other, grown-own}
 use Rattle.block.specs.Stores.{stored-version, stored-cell, stored-length, stored-lengths, stored-bump, stored-base, stored-bases, stored-entry, stored-entries, stored-long}
 use Rattle.block.specs.Reads.{length-reads, log-length-at, entries-are}
-use Rattle.block.specs.Writes.{Done}
 
 pub arena-room : (n : ℕ) → 2 * n ≤ arena n
 unfolding arena

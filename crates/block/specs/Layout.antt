@@ -12,6 +12,12 @@ use Rattle.rulebook.specs.declared.Entry.{Entry}
 
 -- ---- the parts of a block: V, the bump, 14 zeros, the cells, the lengths, the directory, the arena
 
+abbrev pub versionIx : ℕ
+versionIx = 0
+
+abbrev pub bumpIx : ℕ
+bumpIx = 1
+
 unfoldable pub cellIx : ℕ → ℕ → ℕ
 cellIx n i = 16 + i
 
@@ -45,11 +51,11 @@ spaceOf m = 2 ^ (32 - leadingZeros 32 m) - 1
 -- ---- what stands there
 
 abbrev pub versionOf : List ℕ → ℕ
-versionOf w = getD w 0 0
+versionOf w = getD w versionIx 0
 
 -- the arena's places that are taken
 abbrev pub bumpOf : List ℕ → ℕ
-bumpOf w = getD w 1 0
+bumpOf w = getD w bumpIx 0
 
 abbrev pub cellOf : ℕ → List ℕ → ℕ → ℕ
 cellOf n w i = getD w (cellIx n i) 0

@@ -19,23 +19,9 @@ use Rattle.block.specs.Sound.{viewOf, sumTo, Sound, Laid}
 use Rattle.block.specs.Ways.{block-sized, sized-block}
 use Rattle.block.specs.Chunks.{width-holds}
 use Rattle.block.specs.Marks.{Walked, Before, walk-start, walk-step, walk-row}
-use Rattle.block.specs.Walk.{Decides, countOf, Marks, RowIn, RowDone, RowOut}
+use Rattle.block.specs.Walk.{Decides, countOf, Marks, RowIn, RowDone, RowOut, RowAt, RowsAt}
 
 -- ---- a row
-
--- in row i, at place j
-pub record RowAt (n : ℕ) (w : List ℕ) (limit i m all : ℕ) (marks : List Bool) (j : ℕ) : Type 0 where
-  pub sized : Sized n w
-  pub cell : i < n
-  pub bump : limit ≡ bumpOf w
-  pub fits : limit ≤ 8192
-  pub is : m ≡ lengthOf n w i
-  pub short : m ≤ n
-  pub space : all ≡ spaceOf m
-  pub few : all ≤ 8191
-  pub most : j ≤ all
-  pub walked : Marks n w marks i j
-  pub below : (t : ℕ) → t < j → placeOf n w i t < bumpOf w
 
 broken : {n : ℕ} {w : List ℕ} {i : ℕ} {marks : List Bool} → (Sound n (viewOf n w) → ⊥) → RowOut Broken n w i marks
 broken h = record { done = λ k q. (let z : _≡_ {A = ℕ} 0 1 = cc in absurd (omega arith)); no = λ _. h }
@@ -128,19 +114,6 @@ module _ {n : ℕ} {w : List ℕ} {limit i m all : ℕ} {marks : List Bool} {j :
   }
 
 -- ---- the rows
-
--- before row i, with the places of the rows before it counted
-pub record RowsAt (n : ℕ) (w : List ℕ) (bump : ℕ) (marks : List Bool) (taken i : ℕ) : Type 0 where
-  pub sized : Sized n w
-  pub is : bump ≡ bumpOf w
-  pub room : bump ≤ arena n
-  pub fits : bump ≤ 8192
-  pub most : i ≤ n
-  pub walked : Marks n w marks i 0
-  pub short : (k : ℕ) → k < i → lengthOf n w k ≤ n
-  pub below : (k : ℕ) → k < i → (j : ℕ) → j < countOf n w k → placeOf n w k j < bumpOf w
-  pub tally : taken ≡ sumTo i (countOf n w)
-  pub small : taken ≤ 8191 * i
 
 undone : {P : Type 0} → (P → ⊥) → Decides false P
 undone h = record { yes = λ q. absurd (false≢true q); no = λ _. h }

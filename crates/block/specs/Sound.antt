@@ -56,3 +56,11 @@ pub record Filling (c n : ℕ) (w : List ℕ) : Type 0 where
   pub sized : Sized n w
   pub bump : bumpOf w ≡ 0
   pub empty : (i : ℕ) → i < c → i < n → lengthOf n w i ≡ 0
+
+-- ---- a change
+
+-- the words after a change, which block they are, and that they are sound if they were
+pub record Done (n : ℕ) (w w′ : List ℕ) (b : Block) : Type 0 where
+  pub sized : Sized n w′
+  pub block : blockOf n w′ ≡ b
+  pub laid : Laid n w → Laid n w′

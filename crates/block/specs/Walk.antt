@@ -7,7 +7,7 @@ use mathlib.Core.List.{List}
 use Rattle.block.specs.declared.walk.Row.{Row}
 use Rattle.block.specs.declared.walk.Row.the-variants.{Marked, Broken}
 use Rattle.block.specs.Layout.{arena, spaceOf, bumpOf, lengthOf, placeOf, Sized}
-use Rattle.block.specs.Sound.{viewOf, Sound}
+use Rattle.block.specs.Sound.{viewOf, sumTo, Sound}
 use Rattle.block.specs.Marks.{Walked}
 
 -- a function's answer decides P
@@ -40,3 +40,32 @@ pub record RowDone (k n : ℕ) (w : List ℕ) (i : ℕ) (marks : List Bool) : Ty
 pub record RowOut (r : Row) (n : ℕ) (w : List ℕ) (i : ℕ) (marks : List Bool) : Type 0 where
   pub done : (k : ℕ) → r ≡ Marked k → RowDone k n w i marks
   pub no : r ≡ Broken → Sound n (viewOf n w) → ⊥
+
+-- ---- the invariants of the two loops
+
+-- in row i, at place j
+pub record RowAt (n : ℕ) (w : List ℕ) (limit i m all : ℕ) (marks : List Bool) (j : ℕ) : Type 0 where
+  pub sized : Sized n w
+  pub cell : i < n
+  pub bump : limit ≡ bumpOf w
+  pub fits : limit ≤ 8192
+  pub is : m ≡ lengthOf n w i
+  pub short : m ≤ n
+  pub space : all ≡ spaceOf m
+  pub few : all ≤ 8191
+  pub most : j ≤ all
+  pub walked : Marks n w marks i j
+  pub below : (t : ℕ) → t < j → placeOf n w i t < bumpOf w
+
+-- before row i, with the places of the rows before it counted
+pub record RowsAt (n : ℕ) (w : List ℕ) (bump : ℕ) (marks : List Bool) (taken i : ℕ) : Type 0 where
+  pub sized : Sized n w
+  pub is : bump ≡ bumpOf w
+  pub room : bump ≤ arena n
+  pub fits : bump ≤ 8192
+  pub most : i ≤ n
+  pub walked : Marks n w marks i 0
+  pub short : (k : ℕ) → k < i → lengthOf n w k ≤ n
+  pub below : (k : ℕ) → k < i → (j : ℕ) → j < countOf n w k → placeOf n w k j < bumpOf w
+  pub tally : taken ≡ sumTo i (countOf n w)
+  pub small : taken ≤ 8191 * i

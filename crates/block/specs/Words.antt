@@ -16,7 +16,7 @@ use Rattle.block.specs.declared.Exchanged.the-variants as exchanged
 use Rattle.block.specs.declared.change.Spot.{Spot}
 use Rattle.block.specs.declared.change.Room.{Room}
 use Rattle.block.specs.declared.change.Room.the-variants.{At, Full}
-use Rattle.block.specs.Layout.{cellIx, lengthIx, baseIx, entryIx, arena, chunkOf, offsetOf, versionOf, bumpOf, cellOf, lengthOf, baseOf, placeOf, entryOf, isBlock, hasCell}
+use Rattle.block.specs.Layout.{versionIx, bumpIx, cellIx, lengthIx, baseIx, entryIx, arena, chunkOf, offsetOf, versionOf, bumpOf, cellOf, lengthOf, baseOf, placeOf, entryOf, isBlock, hasCell}
 
 -- ---- reading
 
@@ -44,14 +44,14 @@ entryIn n w i j = entryUnder (lengthIn n w i) n w i j
 unfoldable pub exchangeIn : ℕ → List ℕ → ℕ → List ℕ × Exchanged
 exchangeIn n w l =
     if isBlock n w
-    then (if eqb (versionOf w) l then (if leb l n then (set w 0 (l + 1), exchanged.Raised) else (w, exchanged.Bad)) else (w, exchanged.Same))
+    then (if eqb (versionOf w) l then (if leb l n then (set w versionIx (l + 1), exchanged.Raised) else (w, exchanged.Bad)) else (w, exchanged.Same))
     else (w, exchanged.Bad)
 
 unfoldable pub writeIn : ℕ → List ℕ → ℕ → ℕ → List ℕ × Bool
 writeIn n w i v = if hasCell n w i then (set w (cellIx n i) v, true) else (w, false)
 
 unfoldable pub takeIn : ℕ → List ℕ → List ℕ × Bool
-takeIn n w = if isBlock n w then (set (set w 0 0) 1 0, true) else (w, false)
+takeIn n w = if isBlock n w then (set (set w versionIx 0) bumpIx 0, true) else (w, false)
 
 unfoldable pub fillIn : ℕ → List ℕ → ℕ → ℕ → List ℕ × Bool
 fillIn n w i v = if hasCell n w i then (set (set w (cellIx n i) v) (lengthIx n i) 0, true) else (w, false)
@@ -83,7 +83,7 @@ roomIn n w i = roomUnder (lengthIn n w i) n w i
 
 unfoldable pub stored : ℕ → List ℕ → ℕ → Spot → ℕ → ℕ → List ℕ
 stored n w i s v o =
-    set (set (set (set (set w (baseIx n i (s .chunk)) (s .base)) 1 (s .bump)) (entryIx n (s .place)) v) (entryIx n (s .place) + 1) o) (lengthIx n i) (s .length)
+    set (set (set (set (set w (baseIx n i (s .chunk)) (s .base)) bumpIx (s .bump)) (entryIx n (s .place)) v) (entryIx n (s .place) + 1) o) (lengthIx n i) (s .length)
 
 unfoldable pub appendAt : Room → ℕ → List ℕ → ℕ → ℕ → ℕ → List ℕ × Bool
 appendAt (At s) n w i v o = (stored n w i s v o, true)

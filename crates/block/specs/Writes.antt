@@ -16,16 +16,10 @@ use Rattle.rulebook.specs.declared.Entry.{Entry}
 use Rattle.block.specs.declared.Exchanged.the-variants as exchanged
 use Rattle.block.specs.Layout.{cellIx, lengthIx, baseIx, versionOf, bumpOf, cellOf, lengthOf, placeOf, entryOf, Sized}
 use Rattle.block.specs.Words.{exchangeIn, writeIn, takeIn, fillIn}
-use Rattle.block.specs.Sound.{View, viewOf, logOf, blockOf, Sound, Laid, Filling}
+use Rattle.block.specs.Sound.{View, viewOf, logOf, blockOf, Sound, Laid, Filling, Done}
 use Rattle.block.specs.Ways.{sized-block, block-cell}
 use Rattle.block.specs.Stores.{cells-left, lengths-left, places-left, entries-left, head-low, cell-low, cell-not-head, length-low, lengths-low, length-not-low, cell-apart, length-apart, head-in, cell-in, length-in}
 use Rattle.block.specs.Reads.{version-at, log-none}
-
--- the words after a change, which block they are, and that they are sound if they were
-pub record Done (n : ℕ) (w w′ : List ℕ) (b : Block) : Type 0 where
-  pub sized : Sized n w′
-  pub block : blockOf n w′ ≡ b
-  pub laid : Laid n w → Laid n w′
 
 -- ---- a store before the directory
 

@@ -1,6 +1,8 @@
 // What changes a block: the exchange of V, an entry more, a cell's new value, and taking and filling a block.
+use super::BUMP;
 use super::Exchanged;
 use super::Looked;
+use super::VERSION;
 use super::base_at;
 use super::cell_at;
 use super::chunk;
@@ -18,7 +20,7 @@ ghost use Prim.Native.Nat.{_<_};
 ghost use Rattle.block.specs.Layout.{Sized, Reach};
 ghost use Rattle.block.specs.Words.{exchangeIn, writeIn, takeIn, fillIn, freshRoom, heldRoom, roomIn, appendIn};
 
-// What an append writes: the chunk's base, the bump, the arena's place and the log's length.
+// What an append writes: the base of the entry's chunk, the bump, the entry's place in the arena, and the log's length.
 pub struct Spot {
     pub chunk: u32,
     pub base: u32,
@@ -27,28 +29,30 @@ pub struct Spot {
     pub length: u32,
 }
 
+// Where an entry goes, or that there is no room.
 pub enum Room {
     At(Spot),
     Full,
 }
 
-// If V = l, V becomes l + 1.
+// If V = l, V becomes l + 1; l is at most n.
 pub fn exchange(b: &mut [u32], n: u32, l: u32) -> Exchanged
     ensures { λ r. ⌜ (now (b .exit), r) ≡ exchangeIn n (now (b .entry)) l ⌝ }
 {
     if !sized(b, n) {
         return Exchanged::Bad;
     }
-    if b[0] != l {
+    if b[VERSION] != l {
         return Exchanged::Same;
     }
     if n < l {
         return Exchanged::Bad;
     }
-    b[0] = l + 1;
+    b[VERSION] = l + 1;
     Exchanged::Raised
 }
 
+// Writes cell i.
 pub fn write(b: &mut [u32], n: u32, i: u32, v: u32) -> bool
     ensures { λ r. ⌜ (now (b .exit), r) ≡ writeIn n (now (b .entry)) i v ⌝ }
 {
@@ -67,8 +71,8 @@ pub fn take(b: &mut [u32], n: u32) -> bool
     if !sized(b, n) {
         return false;
     }
-    b[0] = 0;
-    b[1] = 0;
+    b[VERSION] = 0;
+    b[BUMP] = 0;
     true
 }
 
@@ -93,7 +97,7 @@ fn fresh_room(b: &[u32], n: u32, m: u32) -> Room
     requires { ⌜ Sized n (now b) × (m < n) ⌝ }
     ensures { λ r. ⌜ r ≡ freshRoom n (now (b .entry)) m ⌝ }
 {
-    let u = b[1];
+    let u = b[BUMP];
     let at = wide(u);
     if places(n) < at + wide(m + 1) {
         return Room::Full;
@@ -121,7 +125,7 @@ fn held_room(b: &[u32], n: u32, i: u32, m: u32) -> Room
     Room::At(Spot {
         chunk: c,
         base: b[at],
-        bump: b[1],
+        bump: b[BUMP],
         place: p,
         length: m + 1,
     })
@@ -143,6 +147,7 @@ fn find_room(b: &[u32], n: u32, i: u32) -> Room
     held_room(b, n, i, m)
 }
 
+// Adds an entry to cell i's log; false where there is no room for it.
 pub fn append(b: &mut [u32], n: u32, i: u32, version: u32, old: u32) -> bool
     ensures { λ r. ⌜ (now (b .exit), r) ≡ appendIn n (now (b .entry)) i version old ⌝ }
 {
@@ -153,7 +158,7 @@ pub fn append(b: &mut [u32], n: u32, i: u32, version: u32, old: u32) -> bool
     let e = entry_at(n, s.place);
     let m = length_at(n, i);
     b[at] = s.base;
-    b[1] = s.bump;
+    b[BUMP] = s.bump;
     b[e] = version;
     b[e + 1] = old;
     b[m] = s.length;

@@ -16,12 +16,22 @@ ghost use Rattle.rulebook.specs.Sizes.{mostCells, blockWords, directoryWidth};
 ghost use Rattle.block.specs.Layout.{cellIx, lengthIx, baseIx, entryIx, arena, chunkOf, offsetOf, placeOf, spaceOf, isBlock, hasCell, Sized, Reach, Lies};
 ghost use Rattle.block.specs.Words.{versionIn, cellIn, lengthIn, entryIn};
 
+// The block's words: V, the bump, zeros up to HEAD; a cell, a length and a WIDTH of chunks for each cell; the arena.
+const VERSION: usize = 0;
+
+const BUMP: usize = 1;
+
+const HEAD: u32 = 16;
+
+const WIDTH: u32 = 13;
+
 // A word that was asked for, or that there is none.
 pub enum Looked {
     Word(u32),
     Bad,
 }
 
+// An entry that was asked for, or that there is none.
 pub enum Probed {
     Found(Entry),
     Bad,
@@ -65,32 +75,36 @@ fn has_cell(b: &[u32], n: u32, i: u32) -> bool
 
 // ---- where a word lies
 
+// Cell i.
 fn cell_at(n: u32, i: u32) -> usize
     requires { ⌜ (n ≤ mostCells) × (i < n) ⌝ }
     ensures { λ r. ⌜ Lies n (cellIx n i) r ⌝ }
 {
-    wide(16 + i)
+    wide(HEAD + i)
 }
 
+// The length of cell i's log.
 fn length_at(n: u32, i: u32) -> usize
     requires { ⌜ (n ≤ mostCells) × (i < n) ⌝ }
     ensures { λ r. ⌜ Lies n (lengthIx n i) r ⌝ }
 {
-    wide(16 + n + i)
+    wide(HEAD + n + i)
 }
 
+// The place at which chunk c of cell i's log begins.
 fn base_at(n: u32, i: u32, c: u32) -> usize
     requires { ⌜ (n ≤ mostCells) × (i < n) × (c < directoryWidth n) ⌝ }
     ensures { λ r. ⌜ Lies n (baseIx n i c) r ⌝ }
 {
-    wide(16 + 2 * n + 13 * i + c)
+    wide(HEAD + 2 * n + WIDTH * i + c)
 }
 
+// The version at place p of the arena; the old value is the next word.
 fn entry_at(n: u32, p: usize) -> usize
     requires { ⌜ (n ≤ mostCells) × (p < arena n) ⌝ }
     ensures { λ r. ⌜ Lies n (entryIx n p) r × (r + 1 < blockWords n) ⌝ }
 {
-    wide(16 + 15 * n) + 2 * p
+    wide(HEAD + 2 * n + WIDTH * n) + 2 * p
 }
 
 // How many entries the arena holds.
@@ -139,15 +153,17 @@ fn place(b: &[u32], n: u32, i: u32, j: u32) -> usize
 
 // ---- reading
 
+// The block's version V.
 pub fn version(b: &[u32], n: u32) -> Looked
     ensures { λ r. ⌜ r ≡ versionIn n (now (b .entry)) ⌝ }
 {
     if !sized(b, n) {
         return Looked::Bad;
     }
-    Looked::Word(b[0])
+    Looked::Word(b[VERSION])
 }
 
+// Cell i.
 pub fn cell(b: &[u32], n: u32, i: u32) -> Looked
     ensures { λ r. ⌜ r ≡ cellIn n (now (b .entry)) i ⌝ }
 {
@@ -158,6 +174,7 @@ pub fn cell(b: &[u32], n: u32, i: u32) -> Looked
     Looked::Word(b[at])
 }
 
+// How many entries cell i's log has: at most n.
 pub fn log_length(b: &[u32], n: u32, i: u32) -> Looked
     ensures { λ r. ⌜ r ≡ lengthIn n (now (b .entry)) i ⌝ }
 {
@@ -172,6 +189,7 @@ pub fn log_length(b: &[u32], n: u32, i: u32) -> Looked
     Looked::Word(m)
 }
 
+// Entry j of cell i's log.
 pub fn entry(b: &[u32], n: u32, i: u32, j: u32) -> Probed
     ensures { λ r. ⌜ r ≡ entryIn n (now (b .entry)) i j ⌝ }
 {

@@ -1,4 +1,5 @@
 // The walk that decides whether the logs of a block are sound: it marks every place that they have.
+use super::BUMP;
 use super::length_at;
 use super::place;
 use super::places;
@@ -47,7 +48,7 @@ pub fn laid(b: &[u32], n: u32) -> bool
     if !sized(b, n) {
         return false;
     }
-    let bump = wide(b[1]);
+    let bump = wide(b[BUMP]);
     if places(n) < bump {
         return false;
     }

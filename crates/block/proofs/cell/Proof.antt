@@ -1,4 +1,4 @@
-use Rattle.block.specs.Outs.{cells}
+use Rattle.block.specs.Ways.{cells}
 use borrow.Author.Needs.{needs}
 use Rattle.block.proofs.cell.Statement.{statement}
 use Rattle.block.proofs.cell.Tie as tie

@@ -1,4 +1,4 @@
-use Rattle.block.specs.Outs.{blocks}
+use Rattle.block.specs.Ways.{blocks}
 use borrow.Author.Needs.{needs}
 use Rattle.block.proofs.has_cell.Statement.{statement}
 use Rattle.block.proofs.has_cell.Tie as tie

@@ -1,4 +1,4 @@
-use Rattle.block.specs.Outs.{exchanges, first-in}
+use Rattle.block.specs.Ways.{exchanges, first-in}
 use borrow.Author.Needs.{needs}
 use Rattle.block.proofs.change.exchange.Statement.{statement}
 use Rattle.block.proofs.change.exchange.Tie as tie

@@ -1,5 +1,5 @@
 use lib.ListN.{length-set}
-use Rattle.block.specs.Outs.{cells}
+use Rattle.block.specs.Ways.{cells}
 use borrow.Author.Needs.{needs}
 use Rattle.block.proofs.change.fill.Statement.{statement}
 use Rattle.block.proofs.change.fill.Tie as tie

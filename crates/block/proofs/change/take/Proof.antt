@@ -1,4 +1,4 @@
-use Rattle.block.specs.Outs.{blocks}
+use Rattle.block.specs.Ways.{blocks}
 use borrow.Author.Needs.{needs}
 use Rattle.block.proofs.change.take.Statement.{statement}
 use Rattle.block.proofs.change.take.Tie as tie

@@ -1,4 +1,4 @@
-use Rattle.block.specs.Outs.{cells}
+use Rattle.block.specs.Ways.{cells}
 use borrow.Author.Needs.{needs}
 use Rattle.block.proofs.change.write.Statement.{statement}
 use Rattle.block.proofs.change.write.Tie as tie

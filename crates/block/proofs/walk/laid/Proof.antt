@@ -1,6 +1,7 @@
 use Prim.Native.Nat.{_-_}
 use borrow.Author.Needs.{needs}
-use Rattle.block.specs.Rows.{RowsAt, starts, rows-in, rows-broken, rows-few-more, rows-step, rows-done}
+use Rattle.block.specs.Walk.{RowsAt}
+use Rattle.block.specs.Rows.{starts, rows-in, rows-broken, rows-few-more, rows-step, rows-done}
 use Rattle.block.proofs.walk.laid.Statement.{statement}
 use Rattle.block.proofs.walk.laid.Tie as tie
 

@@ -3,7 +3,8 @@ use Prim.Native.Nat.{_-_}
 use native.Mathlib.Omega.{arith}
 use lib.ListN.{length, length-set}
 use borrow.Author.Needs.{needs}
-use Rattle.block.specs.Rows.{RowAt, row-long, row-start, row-reach, row-outside, row-twice, row-step, row-done}
+use Rattle.block.specs.Walk.{RowAt}
+use Rattle.block.specs.Rows.{row-long, row-start, row-reach, row-outside, row-twice, row-step, row-done}
 use Rattle.block.proofs.walk.mark_row.Statement.{statement}
 use Rattle.block.proofs.walk.mark_row.Tie as tie
 
