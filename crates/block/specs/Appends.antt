@@ -1,16 +1,16 @@
 -- An append to a sound block with fewer than n entries is done: it is the machine's, and leaves the block sound.
 -- Rests on Plans, Stores, Growth and Writes.
 use Prim.Native.Nat.{ℕ, _+_, _*_, _^_, _≤_, _<_}
-use mathlib.Core.Path.{_≡_, refl, sym, ap, ap₂, _∙_, subst}
+use mathlib.Core.Path.{_≡_, refl, sym, ap, ap₂, _∙_}
 use mathlib.Core.Logic.{inl, inr, ⊎-elim}
-use mathlib.Core.Bool.{Bool, true, false}
+use mathlib.Core.Bool.{true}
 use mathlib.Core.List.{List, [], _∷_, _++_}
 use native.Mathlib.Omega.{arith}
 use lib.ListN.{length, getD}
 use lib.Dec.{eqb}
 use borrow.Author.Tests.{eqb-true, eqb-false, lt-ltb, le-leb, eq-eqb, ne-eqb}
 use Rattle.rulebook.specs.Sizes.{directoryWidth}
-use Rattle.rulebook.specs.State.{Block, logAt, listTo, withLog}
+use Rattle.rulebook.specs.State.{listTo, withLog}
 use Rattle.rulebook.specs.Steps.{appended}
 use Rattle.rulebook.specs.Tests.{by-test}
 use Rattle.rulebook.specs.Lists.{listTo-same, listTo-get, listTo-set}
@@ -20,11 +20,11 @@ use Rattle.block.specs.declared.change.Spot.{Spot}
 use Rattle.block.specs.declared.change.Room.the-variants.{At}
 use Rattle.block.specs.Layout.{arena, chunkOf, offsetOf, spaceOf, bumpOf, cellOf, lengthOf, baseOf, placeOf, Sized}
 use Rattle.block.specs.Words.{lengthIn, freshSpot, freshRoom, heldSpot, heldRoom, roomUnder, roomIn, stored, appendAt, appendIn}
-use Rattle.block.specs.Sound.{View, viewOf, logOf, blockOf, sumTo, entriesIn, Sound, Laid, Done}
+use Rattle.block.specs.Sound.{viewOf, logOf, blockOf, sumTo, entriesIn, Laid, Done}
 use Rattle.block.specs.Sums.{sum-at, sum-slack}
 use Rattle.block.specs.Chunks.{space-most, space-least, fresh-before, fresh-chunk, fresh-offset, fresh-new, held-after, width-holds}
 use Rattle.block.specs.Plans.{Fresh, Held, Planned, room-planned, planned-wide}
-use Rattle.block.specs.Growth.{Opened, Stayed, Grown, grown-sound, grown-other, grown-own}
+use Rattle.block.specs.Growth.{Grown, grown-sound, grown-other, grown-own}
 use Rattle.block.specs.Stores.{stored-version, stored-cell, stored-length, stored-lengths, stored-bump, stored-base, stored-bases, stored-entry, stored-entries, stored-long}
 use Rattle.block.specs.Reads.{length-reads, log-length-at, entries-are}
 

@@ -1,9 +1,9 @@
 -- The spot that an append has found: what it says of the words, and what the ways out of `append` owe.
 -- Rests on Rooms.
 use Prim.Native.Nat.{ℕ, _+_, _≤_, _<_}
-use mathlib.Core.Path.{_≡_, refl, sym, ap, _∙_, subst}
-use mathlib.Core.Logic.{_⊎_, inl, inr, ⊎-elim}
-use mathlib.Core.Bool.{Bool, true, false}
+use mathlib.Core.Path.{_≡_, refl, sym, _∙_, subst}
+use mathlib.Core.Logic.{_⊎_, inl, inr}
+use mathlib.Core.Bool.{true, false}
 use mathlib.Core.List.{List}
 use native.Mathlib.Omega.{arith}
 use lib.ListN.{length, set}
@@ -49,49 +49,28 @@ no-room : {A : Type 0} {s : Spot} → Full ≡ At s → A
 no-room q = let z : _≡_ {A = ℕ} 0 1 = cc in absurd (omega arith)
 
 module _ (n : ℕ) (w : List ℕ) (i m : ℕ) (s : Spot) (t : lengthIn n w i ≡ looked.Word m) (short : m < n) where
+  planned-by : (a : Spot) → At a ≡ At s → a .chunk ≡ chunkOf m → a .place ≡ a .base + offsetOf m → a .place < arena n → a .length ≡ m + 1
+      → Fresh n w m a ⊎ Held n w i m a → Planned n w i m s
+  planned-by a q c p f l k =
+      let e : a ≡ s = cc in
+      let d = length-told n w i m t in
+      subst (λ (x : Spot). Planned n w i m x) e
+      (record { sized = d .sized; cell = d .cell; is = d .is; short = short; chunk = c; place = p; inside = f; length = l; kind = k })
+
   fresh-planned : offsetOf m ≡ 0 → freshRoom n w m ≡ At s → Planned n w i m s
   unfolding freshRoom
   fresh-planned z h =
       by-test (leb (bumpOf w + (m + 1)) (arena n))
       (λ e.
-      let q : At (record { chunk = chunkOf m; base = bumpOf w; bump = bumpOf w + (m + 1); place = bumpOf w; length = m + 1 }) ≡ At s = simp e at h in
-      let y : record { chunk = chunkOf m; base = bumpOf w; bump = bumpOf w + (m + 1); place = bumpOf w; length = m + 1 } ≡ s = cc in
       let l = leb-true (bumpOf w + (m + 1)) (arena n) e in
-      let k = length-told n w i m t in
-      subst (λ (x : Spot). Planned n w i m x) y
-      (record {
-        sized = k .sized;
-        cell = k .cell;
-        is = k .is;
-        short = short;
-        chunk = refl;
-        place = omega arith;
-        inside = omega arith;
-        length = refl;
-        kind = inl (record { opens = z; base = refl; bump = refl; fits = l });
-      }))
+      planned-by (freshSpot w m) (simp e at h) refl (omega arith) (omega arith) refl (inl (record { opens = z; base = refl; bump = refl; fits = l })))
       (λ e. no-room (simp e at h))
 
   held-planned : (offsetOf m ≡ 0 → ⊥) → heldRoom n w i m ≡ At s → Planned n w i m s
   unfolding heldRoom
   held-planned z h =
       by-test (ltb (placeOf n w i m) (arena n))
-      (λ e.
-      let q : At (record { chunk = chunkOf m; base = baseOf n w i (chunkOf m); bump = bumpOf w; place = placeOf n w i m; length = m + 1 }) ≡ At s = simp e at h in
-      let y : record { chunk = chunkOf m; base = baseOf n w i (chunkOf m); bump = bumpOf w; place = placeOf n w i m; length = m + 1 } ≡ s = cc in
-      let k = length-told n w i m t in
-      subst (λ (x : Spot). Planned n w i m x) y
-      (record {
-        sized = k .sized;
-        cell = k .cell;
-        is = k .is;
-        short = short;
-        chunk = refl;
-        place = refl;
-        inside = ltb-true _ _ e;
-        length = refl;
-        kind = inr (record { stands = z; base = refl; bump = refl });
-      }))
+      (λ e. planned-by (heldSpot n w i m) (simp e at h) refl refl (ltb-true _ _ e) refl (inr (record { stands = z; base = refl; bump = refl })))
       (λ e. no-room (simp e at h))
 
 under : (n : ℕ) (w : List ℕ) (i : ℕ) (s : Spot) (l : Looked) → lengthIn n w i ≡ l → roomUnder l n w i ≡ At s → (m : ℕ) × Planned n w i m s

@@ -1,17 +1,17 @@
 -- What the reading functions answer on a sound block: the machine's V, cell, log's length and entry.
 -- Rests on Sound, Words and Ways.
-use Prim.Native.Nat.{ℕ, _+_, _*_, _^_, _≤_, _<_}
-use mathlib.Core.Path.{_≡_, refl, sym, ap, _∙_, subst}
+use Prim.Native.Nat.{ℕ, _<_}
+use mathlib.Core.Path.{_≡_, refl, sym, ap, _∙_}
 use mathlib.Core.List.{List, []}
 use native.Mathlib.Omega.{arith}
 use lib.ListN.{length, getD}
 use borrow.Author.Tests.{lt-ltb, le-leb}
-use Rattle.rulebook.specs.State.{Block, noEntry, cellAt, logAt, entryAt, listTo}
+use Rattle.rulebook.specs.State.{noEntry, cellAt, logAt, entryAt, listTo}
 use Rattle.rulebook.specs.Lists.{listTo-length, listTo-get}
 use Rattle.rulebook.specs.declared.Entry.{Entry}
 use Rattle.block.specs.declared.Looked.the-variants as looked
 use Rattle.block.specs.declared.Probed.the-variants as probed
-use Rattle.block.specs.Layout.{arena, versionOf, cellOf, lengthOf, placeOf, entryOf, spaceOf, Sized}
+use Rattle.block.specs.Layout.{arena, versionOf, cellOf, lengthOf, placeOf, entryOf, Sized}
 use Rattle.block.specs.Words.{versionIn, cellIn, lengthIn, entryUnder, entryIn}
 use Rattle.block.specs.Sound.{View, viewOf, logOf, blockOf, sumTo, entriesIn, Laid}
 use Rattle.block.specs.Sums.{sum-same}

@@ -1,25 +1,21 @@
 -- What a log's length, once answered, and the room found for an entry say of the words; and what the ways out of `entry` and `append` owe.
 -- Rests on Words, Ways and Chunks.
 use Prim.Native.Nat.{ℕ, _+_, _≤_, _<_}
-use mathlib.Core.Path.{_≡_, refl, sym, ap, _∙_, subst}
-use mathlib.Core.Logic.{_⊎_, inl, inr}
-use mathlib.Core.Bool.{Bool, true, false}
+use mathlib.Core.Path.{_≡_, sym, _∙_}
 use mathlib.Core.List.{List}
 use native.Mathlib.Omega.{arith}
-use lib.ListN.{length, getD, set, length-set}
-use lib.Dec.{leb, ltb, eqb}
-use borrow.Author.Tests.{ltb-true, leb-true, eqb-true, eqb-false, lt-ltb, le-ltb, le-leb, lt-leb, eq-eqb, ne-eqb}
-use Rattle.rulebook.specs.Sizes.{mostCells, blockWords, directoryWidth}
+use lib.ListN.{length, getD}
+use lib.Dec.{leb}
+use borrow.Author.Tests.{leb-true, lt-ltb, le-ltb, le-leb, lt-leb, eq-eqb, ne-eqb}
+use Rattle.rulebook.specs.Sizes.{mostCells, blockWords}
 use Rattle.rulebook.specs.Tests.{by-test}
-use Rattle.rulebook.specs.declared.Entry.{Entry}
 use Rattle.block.specs.declared.Looked.{Looked}
 use Rattle.block.specs.declared.Looked.the-variants as looked
 use Rattle.block.specs.declared.Probed.the-variants as probed
-use Rattle.block.specs.declared.change.Spot.{Spot}
 use Rattle.block.specs.declared.change.Room.{Room}
 use Rattle.block.specs.declared.change.Room.the-variants.{At, Full}
-use Rattle.block.specs.Layout.{lengthIx, baseIx, entryIx, arena, chunkOf, offsetOf, bumpOf, lengthOf, baseOf, placeOf, hasCell, Sized, Reach}
-use Rattle.block.specs.Words.{lengthIn, entryUnder, entryIn, freshRoom, heldRoom, roomUnder, roomIn, stored, appendAt, appendIn}
+use Rattle.block.specs.Layout.{baseIx, entryIx, arena, chunkOf, offsetOf, bumpOf, lengthOf, placeOf, hasCell, Sized, Reach}
+use Rattle.block.specs.Words.{lengthIn, entryUnder, entryIn, freshRoom, heldRoom, roomUnder, roomIn}
 use Rattle.block.specs.Ways.{cell-block}
 use Rattle.block.specs.Chunks.{space-least, width-holds}
 

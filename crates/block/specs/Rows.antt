@@ -1,6 +1,6 @@
 -- The walk's invariants, and what each way through it owes: rules for the proofs of `mark_row` and `laid`.
 -- Rests on Walk, Chunks and Ways.
-use Prim.Native.Nat.{ℕ, suc, _+_, _*_, _-_, _≤_, _<_}
+use Prim.Native.Nat.{ℕ, suc, _+_, _≤_, _<_}
 use mathlib.Core.Path.{_≡_, refl, sym, ap, _∙_, subst}
 use mathlib.Core.Logic.{inl, ⊎-elim}
 use mathlib.Core.Bool.{Bool, true, false, not, true≢false, false≢true}
@@ -18,8 +18,8 @@ use Rattle.block.specs.Layout.{lengthIx, arena, spaceOf, bumpOf, lengthO
 use Rattle.block.specs.Sound.{viewOf, sumTo, Sound, Laid}
 use Rattle.block.specs.Ways.{block-sized, sized-block}
 use Rattle.block.specs.Chunks.{width-holds}
-use Rattle.block.specs.Marks.{Walked, Before, walk-start, walk-step, walk-row}
-use Rattle.block.specs.Walk.{Decides, countOf, Marks, RowIn, RowDone, RowOut, RowAt, RowsAt}
+use Rattle.block.specs.Marks.{walk-start, walk-step, walk-row}
+use Rattle.block.specs.Walk.{Decides, countOf, Marks, RowIn, RowOut, RowAt, RowsAt}
 
 -- ---- a row
 

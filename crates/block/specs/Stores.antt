@@ -1,13 +1,12 @@
 -- What is read of a block's words after a store: which parts of the block each store leaves.
 -- Rests on Layout and Sound; with Layout it is all that knows how the words lie.
-use Prim.Native.Nat.{ℕ, _+_, _*_, _≤_, _<_}
-use mathlib.Core.Path.{_≡_, refl, sym, ap, ap₂, _∙_}
+use Prim.Native.Nat.{ℕ, _+_, _≤_, _<_}
+use mathlib.Core.Path.{_≡_, ap₂, _∙_}
 use mathlib.Core.List.{List}
 use native.Mathlib.Omega.{arith}
 use lib.ListN.{length, getD, set, length-set}
 use lib.Seq.{getD-set-same, getD-set-other}
 use Rattle.rulebook.specs.Sizes.{blockWords, directoryWidth}
-use Rattle.rulebook.specs.declared.Entry.{Entry}
 use Rattle.block.specs.declared.change.Spot.{Spot}
 use Rattle.block.specs.Layout.{cellIx, lengthIx, baseIx, entryIx, arena, chunkOf, offsetOf, versionOf, bumpOf, cellOf, lengthOf, baseOf, placeOf, entryOf, Sized}
 use Rattle.block.specs.Words.{stored}

@@ -1,17 +1,16 @@
 -- The tests of the slice decide what they are named for; and what each way out of a function that makes them owes, with the premises as the
 -- code's tests and calls give them: rules for the proofs of the functions. Rests on Words.
 use Prim.Native.Nat.{ℕ, _≤_, _<_, _+_}
-use mathlib.Core.Path.{_≡_, refl, sym, _∙_, ap, subst}
+use mathlib.Core.Path.{_≡_, sym, _∙_}
 use mathlib.Core.Bool.{Bool, true, false, not, _&&_}
 use mathlib.Core.List.{List}
 use lib.ListN.{length, getD, set, length-set}
 use lib.Dec.{leb, ltb, eqb}
-use borrow.Author.Tests.{ltb-true, leb-true, eqb-true, not-true, not-false, lt-ltb, le-ltb, le-leb, lt-leb, eq-eqb, ne-eqb}
+use borrow.Author.Tests.{ltb-true, leb-true, eqb-true, not-true, not-false, lt-ltb, le-leb, lt-leb, eq-eqb, ne-eqb}
 use Rattle.rulebook.specs.Sizes.{mostCells, blockWords}
 use Rattle.rulebook.specs.Tests.{by-test, and-both}
 use Rattle.block.specs.Layout.{isBlock, hasCell, Sized, cellIx, lengthIx, versionOf}
 use native.Mathlib.Omega.{arith}
-use Rattle.block.specs.declared.Looked.{Looked}
 use Rattle.block.specs.declared.Looked.the-variants as looked
 use Rattle.block.specs.declared.Exchanged.the-variants as exchanged
 use Rattle.block.specs.Words.{versionIn, cellIn, lengthIn, exchangeIn, writeIn, takeIn, fillIn}

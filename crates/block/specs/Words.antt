@@ -1,12 +1,11 @@
 -- What each function of the crate answers and leaves, for every content of the slice and every number.
 -- Rests on Layout.
-use Prim.Native.Nat.{ℕ, _+_, _<_}
-use mathlib.Core.Path.{_≡_}
+use Prim.Native.Nat.{ℕ, _+_}
 use mathlib.Core.Bool.{Bool, true, false}
 use mathlib.Core.List.{List}
 use lib.ListN.{set}
 use lib.Dec.{ltb, leb, eqb}
-use Rattle.rulebook.specs.Sizes.{if_then_else_, directoryWidth}
+use Rattle.rulebook.specs.Sizes.{if_then_else_}
 use Rattle.block.specs.declared.Looked.{Looked}
 use Rattle.block.specs.declared.Looked.the-variants as looked
 use Rattle.block.specs.declared.Probed.{Probed}

@@ -1,20 +1,18 @@
 -- What the writing functions leave of a block: exactly the machine's change, and soundness where it was.
 -- Rests on Reads, Stores, Plans and Growth.
-use Prim.Native.Nat.{ℕ, _+_, _*_, _^_, _≤_, _<_}
-use mathlib.Core.Path.{_≡_, refl, sym, ap, ap₂, _∙_, subst}
-use mathlib.Core.Logic.{⊎-elim, inl, inr}
-use mathlib.Core.Bool.{Bool, true, false}
-use mathlib.Core.List.{List, [], _∷_, _++_}
+use Prim.Native.Nat.{ℕ, _+_, _≤_, _<_}
+use mathlib.Core.Path.{_≡_, refl, sym, ap, _∙_, subst}
+use mathlib.Core.Bool.{true}
+use mathlib.Core.List.{List, []}
 use native.Mathlib.Nat.{lt-of-lt-of-le}
 use native.Mathlib.Omega.{arith}
-use lib.ListN.{length, getD, set, length-set}
+use lib.ListN.{set, length-set}
 use lib.Seq.{getD-set-same, getD-set-other}
 use borrow.Author.Tests.{le-leb, eq-eqb, ne-eqb}
-use Rattle.rulebook.specs.State.{Block, logAt, listTo, withVersion, withCell, withLog}
+use Rattle.rulebook.specs.State.{Block, listTo, withVersion, withCell, withLog}
 use Rattle.rulebook.specs.Lists.{listTo-same, listTo-set}
-use Rattle.rulebook.specs.declared.Entry.{Entry}
 use Rattle.block.specs.declared.Exchanged.the-variants as exchanged
-use Rattle.block.specs.Layout.{cellIx, lengthIx, baseIx, versionOf, bumpOf, cellOf, lengthOf, placeOf, entryOf, Sized}
+use Rattle.block.specs.Layout.{cellIx, lengthIx, baseIx, versionOf, cellOf, Sized}
 use Rattle.block.specs.Words.{exchangeIn, writeIn, takeIn, fillIn}
 use Rattle.block.specs.Sound.{View, viewOf, logOf, blockOf, Sound, Laid, Filling, Done}
 use Rattle.block.specs.Ways.{sized-block, block-cell}

@@ -13,7 +13,7 @@ pub use walk::laid;
 ghost use mathlib.Core.Path.{_≡_};
 ghost use Prim.Native.Nat.{_+_, _≤_, _<_};
 ghost use Rattle.rulebook.specs.Sizes.{mostCells, blockWords, directoryWidth};
-ghost use Rattle.block.specs.Layout.{cellIx, lengthIx, baseIx, entryIx, arena, chunkOf, offsetOf, placeOf, spaceOf, isBlock, hasCell, Sized, Reach, Lies};
+ghost use Rattle.block.specs.Layout.{cellIx, lengthIx, baseIx, entryIx, arena, chunkOf, offsetOf, placeOf, spaceOf, isBlock, hasCell, Reach, Lies};
 ghost use Rattle.block.specs.Words.{versionIn, cellIn, lengthIn, entryIn};
 
 // The block's words: V, the bump, zeros up to HEAD; a cell, a length and a WIDTH of chunks for each cell; the arena.

@@ -1,7 +1,6 @@
 use mathlib.Core.Path.{_≡_}
 use Prim.Native.Nat.{_-_}
-use native.Mathlib.Omega.{arith}
-use lib.ListN.{length, length-set}
+use lib.ListN.{length}
 use borrow.Author.Needs.{needs}
 use Rattle.block.specs.Walk.{RowAt}
 use Rattle.block.specs.Rows.{row-long, row-start, row-reach, row-outside, row-twice, row-step, row-done}
