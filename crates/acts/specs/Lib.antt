@@ -1,0 +1,3 @@
+pub mod Sight
+pub mod Plans
+pub mod Acted
