@@ -1,3 +1,4 @@
 pub mod Sight
 pub mod Plans
 pub mod Acted
+pub mod Ways

@@ -1,6 +1,6 @@
 -- What each call does and answers, decided from what it sees; 2 where a bad row or word is first read. The same text serves the words of a
 -- pool and the machine's state. Rests on Sight.
-use Prim.Native.Nat.{_+_, suc, zero, ℕ}
+use Prim.Native.Nat.{_+_, _<_, suc, zero, ℕ}
 use mathlib.Core.Bool.{Bool, _&&_, _||_, not}
 use lib.Dec.{eqb, leb, ltb}
 use Rattle.block.specs.declared.Looked.{Looked}
@@ -262,6 +262,15 @@ readIn reading.Length e k = readLength (e .log (k .block) (k .hand .cell)) (k .h
 readIn reading.Probe e k =
     if leb (k .hand .hi) (k .hand .lo) then read.Bad else readEntry (e .entry (k .block) (k .hand .cell) (middle (k .hand))) (k .number) (k .hand)
 
+-- the cell in hand is a word's number below the last
+abbrev pub InHand : Progress → Type 0
+InHand (progress.Going r w) = Unit
+InHand (progress.Settled w) = w .cell < 4294967295
+
+abbrev pub CellRead : Read → Type 0
+CellRead read.Bad = Unit
+CellRead (read.Got p) = InHand p
+
 -- ---- what it means for a get, a page and a copy
 
 unfoldable pub getGoes : Read → ℕ → Task → Act
@@ -309,11 +318,15 @@ fillsNew e t k =
     let x = touch.Fill (k .target) (k .hand .cell) (k .value) in
     if eqb (k .hand .cell + 1) (e .sizes .n) then finishes (e .slot (k .fresh)) x t k (k .target) 0 else goes x t (moved k stage.FillNew (handOf (k .hand .cell + 1))) reply.Quiet
 
+-- where a set goes on after its exchange succeeded
+abbrev pub afterExchange : ℕ → Task → Task
+afterExchange n k = if ltb (k .number) n then moved k stage.Read (k .hand) else moved k stage.TakeCopy (handOf 0)
+
 unfoldable pub exchangesOn : Looked → ℕ → ℕ → Task → Act
 exchangesOn looked.Bad n t k = refused 2
 exchangesOn (looked.Word v) n t k =
     if eqb v (k .number)
-    then goes (touch.Exchange (k .block) (k .number)) t (if ltb (k .number) n then moved k stage.Read (k .hand) else moved k stage.TakeCopy (handOf 0)) reply.Quiet
+    then goes (touch.Exchange (k .block) (k .number)) t (afterExchange n k) reply.Quiet
     else goes touch.Nothing t (moved k stage.TakeCopy (handOf 0)) reply.Quiet
 
 unfoldable pub readsOld : Looked → ℕ → Task → Act
@@ -327,9 +340,14 @@ appends t k =
 unfoldable pub writesNew : Sight → ℕ → Task → Act
 writesNew e t k = finishes (e .slot (k .fresh)) (touch.Write (k .block) (k .cell) (k .value)) t k (k .block) (k .number + 1)
 
+-- where a copy goes on after a cell is written
+abbrev pub afterFill : ℕ → Task → Task
+afterFill n k =
+    if eqb (k .hand .cell + 1) n then moved k stage.Put (handOf (k .cell)) else moved k (stage.Copying reading.Guess) (handOf (k .hand .cell + 1))
+
 unfoldable pub fillsCopy : ℕ → ℕ → Task → Act
 fillsCopy n t k =
-    goes (touch.Fill (k .target) (k .hand .cell) (answer (k .hand))) t (if eqb (k .hand .cell + 1) n then moved k stage.Put (handOf (k .cell)) else moved k (stage.Copying reading.Guess) (handOf (k .hand .cell + 1))) reply.Quiet
+    goes (touch.Fill (k .target) (k .hand .cell) (answer (k .hand))) t (afterFill n k) reply.Quiet
 
 unfoldable pub puts : Sight → ℕ → Task → Act
 puts e t k = finishes (e .slot (k .fresh)) (touch.Fill (k .target) (k .cell) (k .value)) t k (k .target) 0

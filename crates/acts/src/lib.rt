@@ -1,4 +1,9 @@
 // What a call does to the store, as a value: it is decided from what was read, and then done in one place.
+pub mod reading;
+pub mod stages;
+pub mod starts;
+pub mod tasks;
+
 use rulebook::Entry;
 use rulebook::Progress;
 use rulebook::Reply;
@@ -65,4 +70,49 @@ pub struct Act {
     pub slot: SlotChange,
     pub task: TaskChange,
     pub reply: Reply,
+}
+
+ghost use mathlib.Core.Path.{_≡_};
+ghost use Rattle.acts.specs.Plans.{answers, refused, goes, ends};
+
+// Nothing is done.
+pub fn answers(r: Reply) -> Act
+    ensures { λ a. ⌜ a ≡ answers r ⌝ }
+{
+    Act {
+        touch: Touch::Nothing,
+        slot: SlotChange::Same,
+        task: TaskChange::Same,
+        reply: r,
+    }
+}
+
+pub fn refused(n: u32) -> Act
+    ensures { λ a. ⌜ a ≡ refused n ⌝ }
+{
+    answers(Reply::Refused(n))
+}
+
+// One block is touched, and task t becomes k.
+pub fn goes(x: Touch, t: u32, k: Task, r: Reply) -> Act
+    ensures { λ a. ⌜ a ≡ goes x t k r ⌝ }
+{
+    Act {
+        touch: x,
+        slot: SlotChange::Same,
+        task: TaskChange::To(t, k),
+        reply: r,
+    }
+}
+
+// And slot j becomes y.
+pub fn ends(x: Touch, j: u32, y: Slot, t: u32, k: Task, r: Reply) -> Act
+    ensures { λ a. ⌜ a ≡ ends x j y t k r ⌝ }
+{
+    Act {
+        touch: x,
+        slot: SlotChange::To(j, y),
+        task: TaskChange::To(t, k),
+        reply: r,
+    }
 }

@@ -1,0 +1,13 @@
+use Rattle.acts.specs.Ways.{readings}
+use borrow.Author.Needs.{needs}
+use Rattle.acts.proofs.reading.probed.Statement.{statement}
+use Rattle.acts.proofs.reading.probed.Tie as tie
+
+pub probed-spec : {M : Type 1} → statement M
+probed-spec =
+    tie.close
+    (tie.spec
+    (λ c κs. search (needs, readings))
+    (λ c. search (needs, readings))
+    (λ c. search (needs, readings))
+    (λ c. search (needs, readings)))

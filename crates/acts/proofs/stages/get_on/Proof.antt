@@ -1,0 +1,16 @@
+use Rattle.acts.specs.Ways.{handings}
+use borrow.Author.Needs.{needs}
+use Rattle.acts.proofs.stages.get_on.Statement.{statement}
+use Rattle.acts.proofs.stages.get_on.Tie as tie
+
+pub get-on-spec : {M : Type 1} → statement M
+get-on-spec =
+    tie.close
+    (tie.spec
+    (λ c. search (needs, handings))
+    (λ c κs. search (needs, handings))
+    (λ c κs. search (needs, handings))
+    (λ c. search (needs, handings))
+    (λ c κs. search (needs, handings))
+    (λ c. search (needs, handings))
+    (λ c. search (needs, handings)))

@@ -1,0 +1,15 @@
+use Rattle.acts.specs.Ways.{handings}
+use borrow.Author.Needs.{needs}
+use Rattle.acts.proofs.stages.page_goes.Statement.{statement}
+use Rattle.acts.proofs.stages.page_goes.Tie as tie
+
+pub page-goes-spec : {M : Type 1} → statement M
+page-goes-spec =
+    tie.close
+    (tie.spec
+    (λ c. search (needs, handings))
+    (λ c κs. search (needs, handings))
+    (λ c. search (needs, handings))
+    (λ c κs. search (needs, handings))
+    (λ c. search (needs, handings))
+    (λ c. search (needs, handings)))

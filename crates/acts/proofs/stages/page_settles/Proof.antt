@@ -1,0 +1,19 @@
+use Rattle.acts.specs.Ways.{handings}
+use borrow.Author.Needs.{needs}
+use Rattle.acts.proofs.stages.page_settles.Statement.{statement}
+use Rattle.acts.proofs.stages.page_settles.Tie as tie
+
+pub page-settles-spec : {M : Type 1} → statement M
+page-settles-spec =
+    tie.close
+    (tie.spec
+    (λ c κs. search (needs, handings))
+    (λ c. search (needs, handings))
+    (λ c κs. search (needs, handings))
+    (λ c κs. search (needs, handings))
+    (λ c. search (needs, handings))
+    (λ c. search (needs, handings))
+    (λ c κs. search (needs, handings))
+    (λ c κs. search (needs, handings))
+    (λ c κs. search (needs, handings))
+    (λ c. search (needs, handings)))
