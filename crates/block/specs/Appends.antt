@@ -9,7 +9,7 @@ use native.Mathlib.Omega.{arith}
 use lib.ListN.{length, getD}
 use lib.Dec.{eqb}
 use borrow.Author.Tests.{eqb-true, eqb-false, lt-ltb, le-leb, eq-eqb, ne-eqb}
-use Rattle.rulebook.specs.Sizes.{directoryWidth}
+use Rattle.rulebook.specs.Sizes.{mostCells, directoryWidth}
 use Rattle.rulebook.specs.State.{listTo, withLog}
 use Rattle.rulebook.specs.Steps.{appended}
 use Rattle.rulebook.specs.Tests.{by-test}
@@ -41,7 +41,7 @@ module _ (n : ℕ) (w : List ℕ) (i m : ℕ) (s : Spot) (v o : ℕ) (L : Laid n
   wide : s .chunk < directoryWidth n
   wide = planned-wide P
 
-  small : m < 4096
+  small : m < mostCells
   small = let f = L .sized .few in let h = P .short in omega arith
 
   -- entry j's place, where its chunk's base is

@@ -7,7 +7,7 @@ use native.Mathlib.Omega.{arith}
 use lib.Pow.{pow-pos, pow-mono}
 use lib.Count.{leadingZeros, leading-le, leading-top, leading-length}
 use Rattle.rulebook.specs.Sizes.{mostCells, directoryWidth}
-use Rattle.block.specs.Layout.{chunkOf, offsetOf, spaceOf}
+use Rattle.block.specs.Layout.{mostPlaces, chunkOf, offsetOf, spaceOf}
 
 -- ---- entry j's chunk and its place there
 
@@ -132,7 +132,7 @@ module _ (m : ℕ) (f : m < 2 ^ 31) where
 
 -- ---- the directory is wide enough for a log of at most n entries
 
-pub space-small : (m : ℕ) → m ≤ mostCells → spaceOf m < 8192
+pub space-small : (m : ℕ) → m ≤ mostCells → spaceOf m < mostPlaces
 space-small m h =
     let l : m < 2 ^ 13 = omega arith in
     space-below 13 m (omega arith) l
@@ -183,7 +183,7 @@ module _ (m : ℕ) (h : m ≤ mostCells) where
   unfolding spaceOf
   space-as = ap (λ (x : ℕ). x - 1) space-shifted
 
-  pub space-top : (1 * 2 ^ (32 - leadingZeros 32 m)) % 4294967296 - 1 ≤ 8191
+  pub space-top : (1 * 2 ^ (32 - leadingZeros 32 m)) % 4294967296 - 1 < mostPlaces
   space-top = let s = space-as in let l = space-small m h in omega arith
 
 pub ruleset shifts = (chunk-fits, offset-below, offset-as, leading-le, digits-fit, space-some, space-as, space-top)

@@ -1,4 +1,4 @@
--- Where each word of a block lies, what stands there, and when a slice is a block of n cells. No other file knows a width or a start.
+-- Where each word of a block lies, what stands there, and when a slice is a block of n cells. Each start and width is written here alone.
 -- Rests on the rule book's sizes.
 use Prim.Native.Nat.{ℕ, _+_, _-_, _*_, _^_, _≤_, _<_}
 use mathlib.Core.Path.{_≡_}
@@ -10,7 +10,7 @@ use lib.Count.{leadingZeros}
 use Rattle.rulebook.specs.Sizes.{mostCells, blockWords, directoryWidth, within}
 use Rattle.rulebook.specs.declared.Entry.{Entry}
 
--- ---- the parts of a block: V, the bump, 14 zeros, the cells, the lengths, the directory, the arena
+-- ---- the parts of a block: V, the bump, zeros up to word 16; the cells, the lengths, the directory, the arena, and spare words
 
 abbrev pub versionIx : ℕ
 versionIx = 0
@@ -18,22 +18,29 @@ versionIx = 0
 abbrev pub bumpIx : ℕ
 bumpIx = 1
 
+abbrev pub headWords : ℕ
+headWords = 16
+
 unfoldable pub cellIx : ℕ → ℕ → ℕ
-cellIx n i = 16 + i
+cellIx n i = headWords + i
 
 unfoldable pub lengthIx : ℕ → ℕ → ℕ
-lengthIx n i = 16 + n + i
+lengthIx n i = headWords + n + i
 
--- where chunk c of cell i's log begins
+-- the directory: a word for each chunk c of each cell i's log
 unfoldable pub baseIx : ℕ → ℕ → ℕ → ℕ
-baseIx n i c = 16 + 2 * n + directoryWidth n * i + c
+baseIx n i c = headWords + 2 * n + directoryWidth n * i + c
 
--- the arena's entries of two words: a version and an old value
+-- the arena: a version and an old value at each place p
 unfoldable pub entryIx : ℕ → ℕ → ℕ
-entryIx n p = 16 + 2 * n + directoryWidth n * n + 2 * p
+entryIx n p = headWords + 2 * n + directoryWidth n * n + 2 * p
 
+-- how many places the arena has, and the most that it has in any block
 unfoldable pub arena : ℕ → ℕ
 arena n = 2 * n
+
+abbrev pub mostPlaces : ℕ
+mostPlaces = 2 * mostCells
 
 -- ---- a log's chunks: chunk c holds the entries j with 2^c ≤ j + 1 < 2^(c + 1)
 
@@ -44,7 +51,7 @@ chunkOf j = 31 - leadingZeros 32 (j + 1)
 unfoldable pub offsetOf : ℕ → ℕ
 offsetOf j = j + 1 - 2 ^ chunkOf j
 
--- the places of all chunks that a log of m entries has: 2^(binary digits of m) - 1
+-- how many places the chunks of a log of m entries have: those with 2^c ≤ m, together 2^(binary digits of m) - 1
 unfoldable pub spaceOf : ℕ → ℕ
 spaceOf m = 2 ^ (32 - leadingZeros 32 m) - 1
 
@@ -53,7 +60,7 @@ spaceOf m = 2 ^ (32 - leadingZeros 32 m) - 1
 abbrev pub versionOf : List ℕ → ℕ
 versionOf w = getD w versionIx 0
 
--- the arena's places that are taken
+-- how many of the arena's places are taken
 abbrev pub bumpOf : List ℕ → ℕ
 bumpOf w = getD w bumpIx 0
 
@@ -63,13 +70,15 @@ cellOf n w i = getD w (cellIx n i) 0
 abbrev pub lengthOf : ℕ → List ℕ → ℕ → ℕ
 lengthOf n w i = getD w (lengthIx n i) 0
 
+-- the place at which chunk c of cell i's log begins
 abbrev pub baseOf : ℕ → List ℕ → ℕ → ℕ → ℕ
 baseOf n w i c = getD w (baseIx n i c) 0
 
--- the arena's place of entry j of cell i
+-- the place of entry j of cell i's log
 abbrev pub placeOf : ℕ → List ℕ → ℕ → ℕ → ℕ
 placeOf n w i j = baseOf n w i (chunkOf j) + offsetOf j
 
+-- the entry at place p
 abbrev pub entryOf : ℕ → List ℕ → ℕ → Entry
 entryOf n w p = record { version = getD w (entryIx n p) 0; old = getD w (entryIx n p + 1) 0 }
 
@@ -78,22 +87,24 @@ entryOf n w p = record { version = getD w (entryIx n p) 0; old = getD w (entryIx
 unfoldable pub isBlock : ℕ → List ℕ → Bool
 isBlock n w = within 1 n mostCells && eqb (length w) (blockWords n)
 
+-- with a cell i
 unfoldable pub hasCell : ℕ → List ℕ → ℕ → Bool
 hasCell n w i = isBlock n w && ltb i n
 
+-- the same as statements
 pub record Sized (n : ℕ) (w : List ℕ) : Type 0 where
   pub some : 1 ≤ n
   pub few : n ≤ mostCells
   pub long : length w ≡ blockWords n
 
--- entry j of cell i has a word in the directory
+-- the chunk of entry j has a word for cell i in the directory
 pub record Reach (n : ℕ) (w : List ℕ) (i j : ℕ) : Type 0 where
   pub sized : Sized n w
   pub cell : i < n
   pub small : j < 4294967295
   pub chunk : chunkOf j < directoryWidth n
 
--- r is the word x of a block
+-- r is where word x of a block of n cells lies
 pub record Lies (n x r : ℕ) : Type 0 where
   pub is : r ≡ x
   pub inside : r < blockWords n

@@ -14,7 +14,7 @@ use borrow.Author.Count.{below-more}
 use Rattle.rulebook.specs.Sizes.{mostCells, blockWords}
 use Rattle.block.specs.declared.walk.Row.{Row}
 use Rattle.block.specs.declared.walk.Row.the-variants.{Marked, Broken}
-use Rattle.block.specs.Layout.{lengthIx, arena, spaceOf, bumpOf, lengthOf, placeOf, isBlock, Sized, Reach}
+use Rattle.block.specs.Layout.{lengthIx, arena, mostPlaces, spaceOf, bumpOf, lengthOf, placeOf, isBlock, Sized, Reach}
 use Rattle.block.specs.Sound.{viewOf, sumTo, Sound, Laid}
 use Rattle.block.specs.Ways.{block-sized, sized-block}
 use Rattle.block.specs.Chunks.{width-holds}
@@ -31,7 +31,7 @@ module _ {n : ℕ} {w : List ℕ} {limit i : ℕ} {marks : List Bool} (r : RowIn
     pub row-long : n < getD w x 0 → RowOut Broken n w i marks
     row-long h = broken (λ s. let a = s .short i (r .cell) in let l : n < lengthOf n w i = rw e at h in omega arith)
 
-    pub row-start : (all : ℕ) → getD w x 0 ≤ n → all ≡ spaceOf (getD w x 0) → all ≤ 8191 → RowAt n w limit i (getD w x 0) all marks 0
+    pub row-start : (all : ℕ) → getD w x 0 ≤ n → all ≡ spaceOf (getD w x 0) → all < mostPlaces → RowAt n w limit i (getD w x 0) all marks 0
     row-start all h a f = record {
       sized = r .sized;
       cell = r .cell;
@@ -64,7 +64,7 @@ module _ {n : ℕ} {w : List ℕ} {limit i m all : ℕ} {marks : List Bool} {j :
       row-outside l = broken (λ s. let a = s .below i j (r .cell) mine in let b = r .bump in omega arith)
 
       module _ (l : p < limit) where
-        inside : placeOf n w i j < 8192
+        inside : placeOf n w i j < mostPlaces
         inside = let f = r .fits in omega arith
 
         pub row-twice : getD marks p false ≡ true → RowOut Broken n w i marks
@@ -138,7 +138,7 @@ module _ (r : Bool) (n : ℕ) (w : List ℕ) (e : r ≡ isBlock n w) where
       pub rows-past : a < bump → Decides false (Laid n w)
       rows-past l = undone (λ L. let f = L .sound .fits in omega arith)
 
-      pub rows-start : bump ≤ a → a ≤ 8192 → RowsAt n w bump (replicate 8192 false) 0 0
+      pub rows-start : bump ≤ a → a ≤ mostPlaces → RowsAt n w bump (replicate mostPlaces false) 0 0
       rows-start l f = record {
         sized = whole;
         is = is;
@@ -146,8 +146,8 @@ module _ (r : Bool) (n : ℕ) (w : List ℕ) (e : r ≡ isBlock n w) where
         fits = omega arith;
         most = omega arith;
         walked =
-            walk-start (countOf n w) (placeOf n w) 8192 (replicate 8192 false) (length-replicate {A = Bool} 8192 false)
-            (λ p q. getD-replicate {A = Bool} 8192 p false false q);
+            walk-start (countOf n w) (placeOf n w) mostPlaces (replicate mostPlaces false) (length-replicate {A = Bool} mostPlaces false)
+            (λ p q. getD-replicate {A = Bool} mostPlaces p false false q);
         short = λ k q. absurd (omega arith);
         below = λ k q. absurd (omega arith);
         tally = refl;

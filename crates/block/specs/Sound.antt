@@ -17,12 +17,15 @@ pub record View : Type 0 where
   pub place : ℕ → ℕ → ℕ
   pub entry : ℕ → Entry
 
+-- what the words of a block say
 abbrev pub viewOf : ℕ → List ℕ → View
 viewOf n w = record { bump = bumpOf w; len = lengthOf n w; place = placeOf n w; entry = entryOf n w }
 
+-- cell i's log, oldest first
 abbrev pub logOf : View → ℕ → List Entry
 logOf v i = listTo (v .len i) (λ (j : ℕ). v .entry (v .place i j))
 
+-- the machine's block
 unfoldable pub blockOf : ℕ → List ℕ → Block
 blockOf n w = record { version = versionOf w; cells = listTo n (cellOf n w); logs = listTo n (logOf (viewOf n w)) }
 
@@ -37,13 +40,17 @@ entriesIn n b = sumTo n (λ (i : ℕ). length (logAt b i))
 
 -- ---- soundness
 
--- a log of m entries has the places of entries 0, .. spaceOf m - 1: those of its entries, and what is left of its last chunk
+-- a log of m entries holds the places of entries 0, .. spaceOf m - 1: those of its entries, and what is left of its last chunk
 pub record Sound (n : ℕ) (v : View) : Type 0 where
+  -- every log has at most n entries
   pub short : (i : ℕ) → i < n → v .len i ≤ n
+  -- every place that is held lies below the bump
   pub below : (i j : ℕ) → i < n → j < spaceOf (v .len i) → v .place i j < v .bump
-  -- no two places are one
+  -- no two of them are one
   pub once : (i j k t : ℕ) → i < n → k < n → j < spaceOf (v .len i) → t < spaceOf (v .len k) → v .place i j ≡ v .place k t → (i ≡ k) × (j ≡ t)
+  -- the bump is how many there are
   pub tally : v .bump ≡ sumTo n (λ (i : ℕ). spaceOf (v .len i))
+  -- and they are places of the arena
   pub fits : v .bump ≤ arena n
 
 -- the words of a block whose logs are sound
@@ -51,7 +58,7 @@ pub record Laid (n : ℕ) (w : List ℕ) : Type 0 where
   pub sized : Sized n w
   pub sound : Sound n (viewOf n w)
 
--- a block that is filled up to cell c
+-- a block being filled, up to cell c: no place is taken, and the logs of the cells before c are empty
 pub record Filling (c n : ℕ) (w : List ℕ) : Type 0 where
   pub sized : Sized n w
   pub bump : bumpOf w ≡ 0

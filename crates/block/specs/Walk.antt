@@ -6,7 +6,7 @@ use mathlib.Core.Bool.{Bool, true, false}
 use mathlib.Core.List.{List}
 use Rattle.block.specs.declared.walk.Row.{Row}
 use Rattle.block.specs.declared.walk.Row.the-variants.{Marked, Broken}
-use Rattle.block.specs.Layout.{arena, spaceOf, bumpOf, lengthOf, placeOf, Sized}
+use Rattle.block.specs.Layout.{arena, mostPlaces, spaceOf, bumpOf, lengthOf, placeOf, Sized}
 use Rattle.block.specs.Sound.{viewOf, sumTo, Sound}
 use Rattle.block.specs.Marks.{Walked}
 
@@ -20,19 +20,19 @@ abbrev pub countOf : ℕ → List ℕ → ℕ → ℕ
 countOf n w k = spaceOf (lengthOf n w k)
 
 abbrev pub Marks : ℕ → List ℕ → List Bool → ℕ → ℕ → Type 0
-Marks n w marks i j = Walked (countOf n w) (placeOf n w) 8192 marks i j
+Marks n w marks i j = Walked (countOf n w) (placeOf n w) mostPlaces marks i j
 
 pub record RowIn (n : ℕ) (w : List ℕ) (limit i : ℕ) (marks : List Bool) : Type 0 where
   pub sized : Sized n w
   pub cell : i < n
   pub bump : limit ≡ bumpOf w
-  pub fits : limit ≤ 8192
+  pub fits : limit ≤ mostPlaces
   pub walked : Marks n w marks i 0
 
 -- row i has k places, all inside and none marked before
 pub record RowDone (k n : ℕ) (w : List ℕ) (i : ℕ) (marks : List Bool) : Type 0 where
   pub all : k ≡ countOf n w i
-  pub few : k ≤ 8191
+  pub few : k < mostPlaces
   pub short : lengthOf n w i ≤ n
   pub below : (j : ℕ) → j < countOf n w i → placeOf n w i j < bumpOf w
   pub walked : Marks n w marks (i + 1) 0
@@ -48,11 +48,11 @@ pub record RowAt (n : ℕ) (w : List ℕ) (limit i m all : ℕ) (marks : List Bo
   pub sized : Sized n w
   pub cell : i < n
   pub bump : limit ≡ bumpOf w
-  pub fits : limit ≤ 8192
+  pub fits : limit ≤ mostPlaces
   pub is : m ≡ lengthOf n w i
   pub short : m ≤ n
   pub space : all ≡ spaceOf m
-  pub few : all ≤ 8191
+  pub few : all < mostPlaces
   pub most : j ≤ all
   pub walked : Marks n w marks i j
   pub below : (t : ℕ) → t < j → placeOf n w i t < bumpOf w
@@ -62,10 +62,10 @@ pub record RowsAt (n : ℕ) (w : List ℕ) (bump : ℕ) (marks : List Bool) (tak
   pub sized : Sized n w
   pub is : bump ≡ bumpOf w
   pub room : bump ≤ arena n
-  pub fits : bump ≤ 8192
+  pub fits : bump ≤ mostPlaces
   pub most : i ≤ n
   pub walked : Marks n w marks i 0
   pub short : (k : ℕ) → k < i → lengthOf n w k ≤ n
   pub below : (k : ℕ) → k < i → (j : ℕ) → j < countOf n w k → placeOf n w k j < bumpOf w
   pub tally : taken ≡ sumTo i (countOf n w)
-  pub small : taken ≤ 8191 * i
+  pub small : taken ≤ mostPlaces * i

@@ -19,12 +19,15 @@ use Rattle.block.specs.Layout.{versionIx, bumpIx, cellIx, lengthIx, base
 
 -- ---- reading
 
+-- V
 unfoldable pub versionIn : ℕ → List ℕ → Looked
 versionIn n w = if isBlock n w then looked.Word (versionOf w) else looked.Bad
 
+-- cell i
 unfoldable pub cellIn : ℕ → List ℕ → ℕ → Looked
 cellIn n w i = if hasCell n w i then looked.Word (cellOf n w i) else looked.Bad
 
+-- the length of cell i's log, which is at most n
 unfoldable pub lengthIn : ℕ → List ℕ → ℕ → Looked
 lengthIn n w i =
     if hasCell n w i then (if leb (lengthOf n w i) n then looked.Word (lengthOf n w i) else looked.Bad) else looked.Bad
@@ -35,23 +38,28 @@ entryUnder (looked.Word m) n w i j =
     if ltb j m then (if ltb (placeOf n w i j) (arena n) then probed.Found (entryOf n w (placeOf n w i j)) else probed.Bad) else probed.Bad
 entryUnder looked.Bad n w i j = probed.Bad
 
+-- entry j of cell i's log
 unfoldable pub entryIn : ℕ → List ℕ → ℕ → ℕ → Probed
 entryIn n w i j = entryUnder (lengthIn n w i) n w i j
 
 -- ---- writing: the words that are left, and the answer
 
+-- if V = l and l is at most n, V becomes l + 1; if V differs, nothing
 unfoldable pub exchangeIn : ℕ → List ℕ → ℕ → List ℕ × Exchanged
 exchangeIn n w l =
     if isBlock n w
     then (if eqb (versionOf w) l then (if leb l n then (set w versionIx (l + 1), exchanged.Raised) else (w, exchanged.Bad)) else (w, exchanged.Same))
     else (w, exchanged.Bad)
 
+-- cell i is v
 unfoldable pub writeIn : ℕ → List ℕ → ℕ → ℕ → List ℕ × Bool
 writeIn n w i v = if hasCell n w i then (set w (cellIx n i) v, true) else (w, false)
 
+-- V = 0 and no place is taken
 unfoldable pub takeIn : ℕ → List ℕ → List ℕ × Bool
 takeIn n w = if isBlock n w then (set (set w versionIx 0) bumpIx 0, true) else (w, false)
 
+-- cell i is v and its log is empty
 unfoldable pub fillIn : ℕ → List ℕ → ℕ → ℕ → List ℕ × Bool
 fillIn n w i v = if hasCell n w i then (set (set w (cellIx n i) v) (lengthIx n i) 0, true) else (w, false)
 
@@ -77,9 +85,11 @@ roomUnder (looked.Word m) n w i =
     if ltb m n then (if eqb (offsetOf m) 0 then freshRoom n w m else heldRoom n w i m) else Full
 roomUnder looked.Bad n w i = Full
 
+-- where the next entry of cell i's log goes
 unfoldable pub roomIn : ℕ → List ℕ → ℕ → Room
 roomIn n w i = roomUnder (lengthIn n w i) n w i
 
+-- the words with an entry (v, o) at the spot s
 unfoldable pub stored : ℕ → List ℕ → ℕ → Spot → ℕ → ℕ → List ℕ
 stored n w i s v o =
     set (set (set (set (set w (baseIx n i (s .chunk)) (s .base)) bumpIx (s .bump)) (entryIx n (s .place)) v) (entryIx n (s .place) + 1) o) (lengthIx n i) (s .length)
@@ -88,5 +98,6 @@ unfoldable pub appendAt : Room → ℕ → List ℕ → ℕ → ℕ → ℕ → 
 appendAt (At s) n w i v o = (stored n w i s v o, true)
 appendAt Full n w i v o = (w, false)
 
+-- one entry more in cell i's log
 unfoldable pub appendIn : ℕ → List ℕ → ℕ → ℕ → ℕ → List ℕ × Bool
 appendIn n w i v o = appendAt (roomIn n w i) n w i v o

@@ -13,10 +13,10 @@ pub use walk::laid;
 ghost use mathlib.Core.Path.{_≡_};
 ghost use Prim.Native.Nat.{_+_, _≤_, _<_};
 ghost use Rattle.rulebook.specs.Sizes.{mostCells, blockWords, directoryWidth};
-ghost use Rattle.block.specs.Layout.{cellIx, lengthIx, baseIx, entryIx, arena, chunkOf, offsetOf, placeOf, spaceOf, isBlock, hasCell, Reach, Lies};
+ghost use Rattle.block.specs.Layout.{cellIx, lengthIx, baseIx, entryIx, arena, mostPlaces, chunkOf, offsetOf, placeOf, spaceOf, isBlock, hasCell, Reach, Lies};
 ghost use Rattle.block.specs.Words.{versionIn, cellIn, lengthIn, entryIn};
 
-// The block's words: V, the bump, zeros up to HEAD; a cell, a length and a WIDTH of chunks for each cell; the arena.
+// The block's words: V, the bump, and zeros up to HEAD; a cell, a length and WIDTH words of the directory for each cell; the arena.
 const VERSION: usize = 0;
 
 const BUMP: usize = 1;
@@ -24,6 +24,11 @@ const BUMP: usize = 1;
 const HEAD: u32 = 16;
 
 const WIDTH: u32 = 13;
+
+// The most cells that a block has, and the most places of its arena.
+const CELLS: u32 = 4096;
+
+const PLACES: usize = 8192;
 
 // A word that was asked for, or that there is none.
 pub enum Looked {
@@ -57,7 +62,7 @@ fn sized(b: &[u32], n: u32) -> bool
     if n < 1 {
         return false;
     }
-    if 4096 < n {
+    if CELLS < n {
         return false;
     }
     b.len() == wide(20 * n + 16)
@@ -110,7 +115,7 @@ fn entry_at(n: u32, p: usize) -> usize
 // How many entries the arena holds.
 fn places(n: u32) -> usize
     requires { ⌜ n ≤ mostCells ⌝ }
-    ensures { λ r. ⌜ (r ≡ arena n) × (r ≤ 8192) ⌝ }
+    ensures { λ r. ⌜ (r ≡ arena n) × (r ≤ mostPlaces) ⌝ }
 {
     wide(2 * n)
 }
@@ -137,7 +142,7 @@ fn offset(j: u32) -> u32
 // The places of a log of m entries.
 fn space(m: u32) -> u32
     requires { ⌜ m ≤ mostCells ⌝ }
-    ensures { λ r. ⌜ (r ≡ spaceOf m) × (r ≤ 8191) ⌝ }
+    ensures { λ r. ⌜ (r ≡ spaceOf m) × (r < mostPlaces) ⌝ }
 {
     (1u32 << (32 - u32::leading_zeros(m))) - 1
 }

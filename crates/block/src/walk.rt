@@ -1,5 +1,6 @@
 // The walk that decides whether the logs of a block are sound: it marks every place that they have.
 use super::BUMP;
+use super::PLACES;
 use super::length_at;
 use super::place;
 use super::places;
@@ -52,7 +53,7 @@ pub fn laid(b: &[u32], n: u32) -> bool
     if places(n) < bump {
         return false;
     }
-    let mut marks = [false; 8192];
+    let mut marks = [false; PLACES];
     let mut taken: u32 = 0;
     let mut i: u32 = 0;
     while i < n {
