@@ -18,6 +18,7 @@ use Rattle.block.specs.declared.change.Room.{Room}
 use Rattle.block.specs.declared.change.Room.the-variants.{At, Full}
 use Rattle.block.specs.Layout.{lengthIx, baseIx, entryIx, arena, chunkOf, offsetOf, bumpOf, lengthOf, baseOf, placeOf, Sized}
 use Rattle.block.specs.Words.{lengthIn, freshSpot, freshRoom, heldSpot, heldRoom, roomUnder, roomIn, stored, appendAt, appendIn}
+use Rattle.block.specs.Ways.{head-in}
 use Rattle.block.specs.Rooms.{length-told, told-reach}
 
 -- a new chunk at the bump
@@ -119,8 +120,7 @@ module _ (r : Room) (n : ℕ) (w : List ℕ) (i : ℕ) (e : r ≡ roomIn n w i) 
     spot-inside x h = rw (plan .1 .sized .long) h
 
     pub spot-bump : 1 < length w
-    unfolding blockWords
-    spot-bump = let z = plan .1 .sized in omega arith
+    spot-bump = head-in (plan .1 .sized) 1 (omega arith)
 
     pub append-yes : (v o x y z : ℕ) → x ≡ baseIx n i (s .chunk) → y ≡ entryIx n (s .place) → z ≡ lengthIx n i
         → (set (set (set (set (set w x (s .base)) 1 (s .bump)) y v) (y + 1) o) z (s .length), true) ≡ appendIn n w i v o

@@ -16,7 +16,7 @@ use Rattle.block.specs.declared.change.Room.{Room}
 use Rattle.block.specs.declared.change.Room.the-variants.{At, Full}
 use Rattle.block.specs.Layout.{baseIx, entryIx, arena, chunkOf, offsetOf, bumpOf, lengthOf, placeOf, hasCell, Sized, Reach}
 use Rattle.block.specs.Words.{lengthIn, entryUnder, entryIn, freshRoom, heldRoom, roomUnder, roomIn}
-use Rattle.block.specs.Ways.{cell-block}
+use Rattle.block.specs.Ways.{cell-block, head-in}
 use Rattle.block.specs.Chunks.{space-least, width-holds}
 
 -- ---- a length that was answered
@@ -108,8 +108,7 @@ pub ruleset rooms = (room-none, room-full, room-sized, room-reach, room-fresh, r
 -- ---- a room for entry m
 
 pub bump-in : (n : ℕ) (w : List ℕ) → Sized n w → 1 < length w
-unfolding blockWords
-bump-in n w s = omega arith
+bump-in n w s = head-in s 1 (omega arith)
 
 module _ (n : ℕ) (w : List ℕ) (m a t x : ℕ) (all : a ≡ arena n) (at : t ≡ bumpOf w) (more : x ≡ m + 1) where
   pub fresh-no : a < t + x → Full ≡ freshRoom n w m

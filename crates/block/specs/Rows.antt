@@ -11,12 +11,12 @@ use lib.ListN.{length, getD, set, replicate, length-replicate, getD-replicate}
 use lib.Dec.{eqb}
 use borrow.Author.Tests.{not-true, not-false, eqb-true, eqb-false}
 use borrow.Author.Count.{below-more}
-use Rattle.rulebook.specs.Sizes.{mostCells, blockWords}
+use Rattle.rulebook.specs.Sizes.{mostCells}
 use Rattle.block.specs.declared.walk.Row.{Row}
 use Rattle.block.specs.declared.walk.Row.the-variants.{Marked, Broken}
 use Rattle.block.specs.Layout.{lengthIx, arena, mostPlaces, spaceOf, bumpOf, lengthOf, placeOf, isBlock, Sized, Reach}
 use Rattle.block.specs.Sound.{viewOf, sumTo, Sound, Laid}
-use Rattle.block.specs.Ways.{block-sized, sized-block}
+use Rattle.block.specs.Ways.{block-sized, sized-block, head-in}
 use Rattle.block.specs.Chunks.{width-holds}
 use Rattle.block.specs.Marks.{walk-start, walk-step, walk-row}
 use Rattle.block.specs.Walk.{Decides, countOf, Marks, RowIn, RowOut, RowAt, RowsAt}
@@ -131,8 +131,7 @@ module _ (r : Bool) (n : ℕ) (w : List ℕ) (e : r ≡ isBlock n w) where
     rows-few = whole .few
 
     pub rows-bump : 1 < length w
-    unfolding blockWords
-    rows-bump = let s = whole in omega arith
+    rows-bump = head-in whole 1 (omega arith)
 
     module _ (bump a : ℕ) (is : bump ≡ bumpOf w) (all : a ≡ arena n) where
       pub rows-past : a < bump → Decides false (Laid n w)

@@ -10,6 +10,7 @@ use Rattle.rulebook.specs.Sizes.{blockWords, directoryWidth}
 use Rattle.block.specs.declared.change.Spot.{Spot}
 use Rattle.block.specs.Layout.{cellIx, lengthIx, baseIx, entryIx, arena, chunkOf, offsetOf, versionOf, bumpOf, cellOf, lengthOf, baseOf, placeOf, entryOf, Sized}
 use Rattle.block.specs.Words.{stored}
+use Rattle.block.specs.Ways.{head-in}
 
 -- ---- one store: what lies behind it is left
 
@@ -73,10 +74,6 @@ module _ (n : ℕ) where
 
 -- where the words of a block lie, they are within it
 module _ {n : ℕ} {w : List ℕ} (s : Sized n w) where
-  pub head-in : (x : ℕ) → x < 2 → x < length w
-  unfolding blockWords
-  head-in x h = let l = s .long in omega arith
-
   pub cell-in : (i : ℕ) → i < n → cellIx n i < length w
   unfolding blockWords cellIx
   cell-in i h = let l = s .long in omega arith

@@ -38,6 +38,11 @@ pub block-cell : (n : ℕ) (w : List ℕ) (i : ℕ) → Sized n w → i < n → 
 unfolding hasCell
 block-cell n w i s h = simp (sized-block n w s, lt-ltb i n h)
 
+-- V and the bump are words of a block
+pub head-in : {n : ℕ} {w : List ℕ} → Sized n w → (x : ℕ) → x < 2 → x < length w
+unfolding blockWords
+head-in s x h = let l = s .long in omega arith
+
 -- ---- a test that the code has made
 
 module _ (n : ℕ) (w : List ℕ) where
@@ -82,14 +87,11 @@ module _ (r : Bool) (n : ℕ) (w : List ℕ) (e : r ≡ isBlock n w) where
     yes : isBlock n w ≡ true
     yes = sym e ∙ not-false r h
 
-    -- V and the bump are words of it
     pub first-in : 0 < length w
-    unfolding blockWords
-    first-in = let s = block-sized n w yes in omega arith
+    first-in = head-in (block-sized n w yes) 0 (omega arith)
 
     pub second-in : (v : ℕ) → 1 < length (set w 0 v)
-    unfolding blockWords
-    second-in v = let s = block-sized n w yes in simp length-set (omega arith)
+    second-in v = simp length-set (head-in (block-sized n w yes) 1 (omega arith))
 
     pub has-as : (i : ℕ) → ltb i n ≡ hasCell n w i
     unfolding hasCell

@@ -15,8 +15,8 @@ use Rattle.block.specs.declared.Exchanged.the-variants as exchanged
 use Rattle.block.specs.Layout.{cellIx, lengthIx, baseIx, versionOf, cellOf, Sized}
 use Rattle.block.specs.Words.{exchangeIn, writeIn, takeIn, fillIn}
 use Rattle.block.specs.Sound.{View, viewOf, logOf, blockOf, Sound, Laid, Filling, Done}
-use Rattle.block.specs.Ways.{sized-block, block-cell}
-use Rattle.block.specs.Stores.{cells-left, lengths-left, places-left, entries-left, head-low, cell-low, cell-not-head, length-low, lengths-low, length-not-low, cell-apart, length-apart, head-in, cell-in, length-in}
+use Rattle.block.specs.Ways.{sized-block, block-cell, head-in}
+use Rattle.block.specs.Stores.{cells-left, lengths-left, places-left, entries-left, head-low, cell-low, cell-not-head, length-low, lengths-low, length-not-low, cell-apart, length-apart, cell-in, length-in}
 use Rattle.block.specs.Reads.{version-at, log-none}
 
 -- ---- a store before the directory
