@@ -1,4 +1,4 @@
--- The walk's invariants, and what each way through it owes: rules for the proofs of `mark_row` and `laid`.
+-- What each way through the walk owes: rules for the proofs of `mark_row` and `laid`.
 -- Rests on Walk, Chunks and Ways.
 use Prim.Native.Nat.{ℕ, suc, _+_, _≤_, _<_}
 use mathlib.Core.Path.{_≡_, refl, sym, ap, _∙_, subst}
@@ -33,10 +33,8 @@ module _ {n : ℕ} {w : List ℕ} {limit i : ℕ} {marks : List Bool} (r : RowIn
 
     pub row-start : (all : ℕ) → getD w x 0 ≤ n → all ≡ spaceOf (getD w x 0) → all < mostPlaces → RowAt n w limit i (getD w x 0) all marks 0
     row-start all h a f = record {
-      sized = r .sized;
+      on = r .on;
       cell = r .cell;
-      bump = r .bump;
-      fits = r .fits;
       is = ap (λ (y : ℕ). getD w y 0) e;
       short = h;
       space = a;
@@ -54,18 +52,18 @@ module _ {n : ℕ} {w : List ℕ} {limit i m all : ℕ} {marks : List Bool} {j :
     pub row-reach : Reach n w i j
     row-reach =
         let f = r .few in
-        record { sized = r .sized; cell = r .cell; small = omega arith; chunk = width-holds n m j (r .sized .few) (r .short) (subst (λ (x : ℕ). j < x) (r .space) h) }
+        record { sized = r .on .sized; cell = r .cell; small = omega arith; chunk = width-holds n m j (r .on .sized .few) (r .short) (subst (λ (x : ℕ). j < x) (r .space) h) }
 
     mine : j < countOf n w i
     mine = subst (λ (x : ℕ). j < x) counted h
 
     module _ (p : ℕ) (e : p ≡ placeOf n w i j) where
       pub row-outside : limit ≤ p → RowOut Broken n w i marks
-      row-outside l = broken (λ s. let a = s .below i j (r .cell) mine in let b = r .bump in omega arith)
+      row-outside l = broken (λ s. let a = s .below i j (r .cell) mine in let b = r .on .bump in omega arith)
 
       module _ (l : p < limit) where
         inside : placeOf n w i j < mostPlaces
-        inside = let f = r .fits in omega arith
+        inside = let f = r .on .fits in omega arith
 
         pub row-twice : getD marks p false ≡ true → RowOut Broken n w i marks
         row-twice z =
@@ -84,10 +82,8 @@ module _ {n : ℕ} {w : List ℕ} {limit i m all : ℕ} {marks : List Bool} {j :
 
         pub row-step : getD marks p false ≡ false → RowAt n w limit i m all (set marks p true) (j + 1)
         row-step z = record {
-          sized = r .sized;
+          on = r .on;
           cell = r .cell;
-          bump = r .bump;
-          fits = r .fits;
           is = r .is;
           short = r .short;
           space = r .space;
@@ -96,7 +92,7 @@ module _ {n : ℕ} {w : List ℕ} {limit i m all : ℕ} {marks : List Bool} {j :
           walked =
               subst (λ (x : ℕ). Marks n w (set marks x true) i (j + 1)) (sym e)
               (walk-step (countOf n w) (placeOf n w) (r .walked) mine inside (sym (ap (λ (x : ℕ). getD marks x false) e) ∙ z));
-          below = below-more (λ (t : ℕ). placeOf n w i t < bumpOf w) j (r .below) (let b = r .bump in omega arith);
+          below = below-more (λ (t : ℕ). placeOf n w i t < bumpOf w) j (r .below) (let b = r .on .bump in omega arith);
         }
 
   pub row-done : all ≤ j → RowOut (Marked all) n w i marks
@@ -139,10 +135,7 @@ module _ (r : Bool) (n : ℕ) (w : List ℕ) (e : r ≡ isBlock n w) where
 
       pub rows-start : bump ≤ a → a ≤ mostPlaces → RowsAt n w bump (replicate mostPlaces false) 0 0
       rows-start l f = record {
-        sized = whole;
-        is = is;
-        room = omega arith;
-        fits = omega arith;
+        on = record { sized = whole; bump = is; room = omega arith; fits = omega arith };
         most = omega arith;
         walked =
             walk-start (countOf n w) (placeOf n w) mostPlaces (replicate mostPlaces false) (length-replicate {A = Bool} mostPlaces false)
@@ -156,7 +149,7 @@ module _ (r : Bool) (n : ℕ) (w : List ℕ) (e : r ≡ isBlock n w) where
 module _ {n : ℕ} {w : List ℕ} {bump : ℕ} {marks : List Bool} {taken i : ℕ} (a : RowsAt n w bump marks taken i) where
   module _ (h : i < n) where
     pub rows-in : RowIn n w bump i marks
-    rows-in = record { sized = a .sized; cell = h; bump = a .is; fits = a .fits; walked = a .walked }
+    rows-in = record { on = a .on; cell = h; walked = a .walked }
 
     module _ (marks′ : List Bool) (r : Row) (o : RowOut r n w i marks′) where
       pub rows-broken : r ≡ Broken → Decides false (Laid n w)
@@ -164,16 +157,13 @@ module _ {n : ℕ} {w : List ℕ} {bump : ℕ} {marks : List Bool} {taken i : �
 
       module _ (k : ℕ) (q : r ≡ Marked k) where
         pub rows-few-more : taken + k < 4294967296
-        rows-few-more = let d = o .done k q .few in let s = a .small in let f = a .sized .few in omega arith
+        rows-few-more = let d = o .done k q .few in let s = a .small in let f = a .on .sized .few in omega arith
 
         pub rows-step : RowsAt n w bump marks′ (taken + k) (i + 1)
         rows-step =
             let d = o .done k q in
             record {
-              sized = a .sized;
-              is = a .is;
-              room = a .room;
-              fits = a .fits;
+              on = a .on;
               most = omega arith;
               walked = d .walked;
               short = below-more (λ (k : ℕ). lengthOf n w k ≤ n) i (a .short) (d .short);
@@ -190,18 +180,18 @@ module _ {n : ℕ} {w : List ℕ} {bump : ℕ} {marks : List Bool} {taken i : �
   rows-done h t e =
       let last : i ≡ n = (let m = a .most in omega arith) in
       let sum : taken ≡ sumTo n (countOf n w) = a .tally ∙ ap (λ (x : ℕ). sumTo x (countOf n w)) last in
-      let b = a .is in
+      let b = a .on .bump in
       record {
         yes = λ q.
             let z : t ≡ bump = eqb-true t bump q in
             record {
-              sized = a .sized;
+              sized = a .on .sized;
               sound = record {
                 short = λ k l. a .short k (omega arith);
                 below = λ k j l. a .below k (omega arith) j;
                 once = λ k j l u g g′ c c′. a .walked .once k j l u (c, inl (omega arith)) (c′, inl (omega arith));
                 tally = omega arith;
-                fits = let f = a .room in omega arith;
+                fits = let f = a .on .room in omega arith;
               };
             };
         no = λ q L. eqb-false t bump q (let y = L .sound .tally in omega arith);

@@ -1,5 +1,5 @@
 -- What is read of a block's words after a store: which parts of the block each store leaves.
--- Rests on Layout and Sound; with Layout it is all that knows how the words lie.
+-- Rests on Layout and Words. What the laws above it use of the order of a block's words is here.
 use Prim.Native.Nat.{ℕ, _+_, _≤_, _<_}
 use mathlib.Core.Path.{_≡_, ap₂, _∙_}
 use mathlib.Core.List.{List}
@@ -12,20 +12,20 @@ use Rattle.block.specs.Layout.{cellIx, lengthIx, baseIx, entryIx, arena,
 use Rattle.block.specs.Words.{stored}
 use Rattle.block.specs.Ways.{head-in}
 
--- ---- one store: what lies behind it is left
+-- ---- one store: what lies behind it is as it was
 
 module _ (n : ℕ) (w : List ℕ) (x a : ℕ) where
-  -- V and the bump
+  -- the cells, after a store to V or the bump
   pub cells-left : x < 2 → cellOf n (set w x a) ≡ cellOf n w
   unfolding cellIx
   cells-left h = λ t i. getD-set-other w x (cellIx n i) a 0 (λ q. omega arith) t
 
-  -- or a cell
+  -- the lengths, after a store to one of these or a cell
   pub lengths-left : x < lengthIx n 0 → lengthOf n (set w x a) ≡ lengthOf n w
   unfolding lengthIx
   lengths-left h = λ t i. getD-set-other w x (lengthIx n i) a 0 (λ q. omega arith) t
 
-  -- or a length
+  -- the places and the entries, after a store to one of these or a length
   module _ (h : x < baseIx n 0 0) where
     pub places-left : placeOf n (set w x a) ≡ placeOf n w
     unfolding baseIx directoryWidth
@@ -38,6 +38,8 @@ module _ (n : ℕ) (w : List ℕ) (x a : ℕ) where
           version = getD-set-other w x (entryIx n p) a 0 (λ q. omega arith) t;
           old = getD-set-other w x (entryIx n p + 1) a 0 (λ q. omega arith) t;
         }
+
+-- ---- which words lie before which
 
 module _ (n : ℕ) where
   pub head-low : (x : ℕ) → x < 2 → x < lengthIx n 0
@@ -72,7 +74,7 @@ module _ (n : ℕ) where
   unfolding lengthIx
   length-apart i k h q = h (omega arith)
 
--- where the words of a block lie, they are within it
+-- they lie in the block
 module _ {n : ℕ} {w : List ℕ} (s : Sized n w) where
   pub cell-in : (i : ℕ) → i < n → cellIx n i < length w
   unfolding blockWords cellIx

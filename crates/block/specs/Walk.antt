@@ -1,4 +1,4 @@
--- What the walk over a block's places decides, from row to row.
+-- What the walk over a block's places decides, and what holds from row to row and in a row.
 -- Rests on Marks and Sound.
 use Prim.Native.Nat.{ℕ, _+_, _*_, _≤_, _<_}
 use mathlib.Core.Path.{_≡_}
@@ -15,18 +15,25 @@ pub record Decides (r : Bool) (P : Type 0) : Type 0 where
   pub yes : r ≡ true → P
   pub no : r ≡ false → P → ⊥
 
--- the places of cell k's log, and the walk over them
+-- how many places cell k's log holds; and the walk over the places of all logs, at place j of cell i
 abbrev pub countOf : ℕ → List ℕ → ℕ → ℕ
 countOf n w k = spaceOf (lengthOf n w k)
 
 abbrev pub Marks : ℕ → List ℕ → List Bool → ℕ → ℕ → Type 0
 Marks n w marks i j = Walked (countOf n w) (placeOf n w) mostPlaces marks i j
 
-pub record RowIn (n : ℕ) (w : List ℕ) (limit i : ℕ) (marks : List Bool) : Type 0 where
+-- the block that is walked, and its bump, which is no more than there are marks
+pub record Walks (n : ℕ) (w : List ℕ) (limit : ℕ) : Type 0 where
   pub sized : Sized n w
-  pub cell : i < n
   pub bump : limit ≡ bumpOf w
+  pub room : limit ≤ arena n
   pub fits : limit ≤ mostPlaces
+
+-- ---- what `mark_row` asks and gives
+
+pub record RowIn (n : ℕ) (w : List ℕ) (limit i : ℕ) (marks : List Bool) : Type 0 where
+  pub on : Walks n w limit
+  pub cell : i < n
   pub walked : Marks n w marks i 0
 
 -- row i has k places, all inside and none marked before
@@ -45,10 +52,8 @@ pub record RowOut (r : Row) (n : ℕ) (w : List ℕ) (i : ℕ) (marks : List Boo
 
 -- in row i, at place j
 pub record RowAt (n : ℕ) (w : List ℕ) (limit i m all : ℕ) (marks : List Bool) (j : ℕ) : Type 0 where
-  pub sized : Sized n w
+  pub on : Walks n w limit
   pub cell : i < n
-  pub bump : limit ≡ bumpOf w
-  pub fits : limit ≤ mostPlaces
   pub is : m ≡ lengthOf n w i
   pub short : m ≤ n
   pub space : all ≡ spaceOf m
@@ -59,10 +64,7 @@ pub record RowAt (n : ℕ) (w : List ℕ) (limit i m all : ℕ) (marks : List Bo
 
 -- before row i, with the places of the rows before it counted
 pub record RowsAt (n : ℕ) (w : List ℕ) (bump : ℕ) (marks : List Bool) (taken i : ℕ) : Type 0 where
-  pub sized : Sized n w
-  pub is : bump ≡ bumpOf w
-  pub room : bump ≤ arena n
-  pub fits : bump ≤ mostPlaces
+  pub on : Walks n w bump
   pub most : i ≤ n
   pub walked : Marks n w marks i 0
   pub short : (k : ℕ) → k < i → lengthOf n w k ≤ n

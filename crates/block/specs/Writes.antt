@@ -6,7 +6,7 @@ use mathlib.Core.Bool.{true}
 use mathlib.Core.List.{List, []}
 use native.Mathlib.Nat.{lt-of-lt-of-le}
 use native.Mathlib.Omega.{arith}
-use lib.ListN.{set, length-set}
+use lib.ListN.{getD, set, length-set}
 use lib.Seq.{getD-set-same, getD-set-other}
 use borrow.Author.Tests.{le-leb, eq-eqb, ne-eqb}
 use Rattle.rulebook.specs.State.{Block, listTo, withVersion, withCell, withLog}
@@ -82,19 +82,28 @@ module _ {n : ℕ} {w : List ℕ} (s : Sized n w) where
     }
 
     -- a length of 0 empties the log
-    log-emptied : blockOf n (set w (lengthIx n i) 0) ≡ withLog (blockOf n w) i []
+    abbrev cut : List ℕ
+    cut = set w (lengthIx n i) 0
+
+    cut-other : (x : ℕ) → x < lengthIx n 0 → getD cut x 0 ≡ getD w x 0
+    cut-other x l = getD-set-other w (lengthIx n i) x 0 0 (length-not-low n i x l)
+
+    cut-own : logOf (viewOf n cut) i ≡ []
+    cut-own = log-none (viewOf n cut) i (getD-set-same w (lengthIx n i) 0 0 (length-in s i h))
+
+    cut-logs : (k : ℕ) → k < n → (k ≡ i → ⊥) → logOf (viewOf n cut) k ≡ logOf (viewOf n w) k
+    cut-logs k l d =
+        λ t. listTo (getD-set-other w (lengthIx n i) (lengthIx n k) 0 0 (length-apart n i k d) t)
+        (λ (j : ℕ). entries-left n w (lengthIx n i) 0 (length-low n i h) t (places-left n w (lengthIx n i) 0 (length-low n i h) t k j))
+
+    log-emptied : blockOf n cut ≡ withLog (blockOf n w) i []
     unfolding blockOf withLog
     log-emptied =
         λ t. record {
-          version = getD-set-other w (lengthIx n i) 0 0 0 (length-not-low n i 0 (head-low n 0 (omega arith))) t;
-          cells = listTo-same n (cellOf n (set w (lengthIx n i) 0)) (cellOf n w) (λ k l. getD-set-other w (lengthIx n i) (cellIx n k) 0 0 (length-not-low n i (cellIx n k) (cell-low n k l))) t;
-          logs = listTo-set [] n i (logOf (viewOf n w)) (logOf (viewOf n (set w (lengthIx n i) 0))) [] h (log-none (viewOf n (set w (lengthIx n i) 0)) i (getD-set-same w (lengthIx n i) 0 0 (length-in s i h))) others t;
+          version = cut-other 0 (head-low n 0 (omega arith)) t;
+          cells = listTo-same n (cellOf n cut) (cellOf n w) (λ k l. cut-other (cellIx n k) (cell-low n k l)) t;
+          logs = listTo-set [] n i (logOf (viewOf n w)) (logOf (viewOf n cut)) [] h cut-own cut-logs t;
         }
-      where
-        others : (k : ℕ) → k < n → (k ≡ i → ⊥) → logOf (viewOf n (set w (lengthIx n i) 0)) k ≡ logOf (viewOf n w) k
-        others k l d =
-            λ t. listTo (getD-set-other w (lengthIx n i) (lengthIx n k) 0 0 (length-apart n i k d) t)
-            (λ (j : ℕ). entries-left n w (lengthIx n i) 0 (length-low n i h) t (places-left n w (lengthIx n i) 0 (length-low n i h) t k j))
 
 -- ---- what each function does on the words of a block
 
@@ -115,8 +124,6 @@ module _ {n : ℕ} {w : List ℕ} (s : Sized n w) where
   unfolding fillIn
   fill-is i v h = simp (block-cell n w i s h)
 
-  -- ---- the laws
-
   -- V = l: V is raised, and nothing else changes
   pub exchange-first : (l : ℕ) → blockOf n w .version ≡ l → l ≤ n
       → (exchangeIn n w l .1 ≡ exchanged.Raised) × Done n w (exchangeIn n w l .0) (withVersion (blockOf n w) (l + 1))
@@ -127,6 +134,7 @@ module _ {n : ℕ} {w : List ℕ} (s : Sized n w) where
   unfolding exchangeIn
   exchange-later l d = simp (sized-block n w s, ne-eqb (versionOf w) l (λ q. d (version-at n w ∙ q)))
 
+  -- the cell is written, and nothing else changes
   pub write-done : (i v : ℕ) → i < n → (writeIn n w i v .1 ≡ true) × Done n w (writeIn n w i v .0) (withCell (blockOf n w) i v)
   write-done i v h = rw (write-is i v h) (refl, cell-set s i h v)
 
@@ -143,6 +151,7 @@ module _ {n : ℕ} {w : List ℕ} (s : Sized n w) where
         },
       )
 
+  -- the cell is written and its log is empty, and nothing else changes
   pub fill-done : (i v : ℕ) → i < n
       → (fillIn n w i v .1 ≡ true) × Sized n (fillIn n w i v .0) × (blockOf n (fillIn n w i v .0) ≡ withLog (withCell (blockOf n w) i v) i [])
   fill-done i v h =
