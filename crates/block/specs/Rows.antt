@@ -198,3 +198,10 @@ module _ {n : ℕ} {w : List ℕ} {bump : ℕ} {marks : List Bool} {taken i : �
       }
 
 pub ruleset starts = (rows-unsized, rows-few, rows-bump, rows-past, rows-start)
+
+-- what decides the same has the same answer
+pub decides-one : {P : Type 0} (r s : Bool) → Decides r P → Decides s P → r ≡ s
+decides-one true true d e = refl
+decides-one true false d e = absurd (e .no refl (d .yes refl))
+decides-one false true d e = absurd (d .no refl (e .yes refl))
+decides-one false false d e = refl

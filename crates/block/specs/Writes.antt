@@ -6,14 +6,18 @@ use mathlib.Core.Bool.{true}
 use mathlib.Core.List.{List, []}
 use native.Mathlib.Nat.{lt-of-lt-of-le}
 use native.Mathlib.Omega.{arith}
-use lib.ListN.{getD, set, length-set}
+use lib.ListN.{length, getD, set, length-set}
+use lib.Dec.{leb, eqb}
 use lib.Seq.{getD-set-same, getD-set-other}
 use borrow.Author.Tests.{le-leb, eq-eqb, ne-eqb}
 use Rattle.rulebook.specs.State.{Block, listTo, withVersion, withCell, withLog}
+use Rattle.rulebook.specs.Tests.{if-case}
 use Rattle.rulebook.specs.Lists.{listTo-same, listTo-set}
 use Rattle.block.specs.declared.Exchanged.the-variants as exchanged
-use Rattle.block.specs.Layout.{cellIx, lengthIx, baseIx, versionOf, cellOf, Sized}
-use Rattle.block.specs.Words.{exchangeIn, writeIn, takeIn, fillIn}
+use Rattle.block.specs.declared.change.Room.{Room}
+use Rattle.block.specs.declared.change.Room.the-variants.{At, Full}
+use Rattle.block.specs.Layout.{cellIx, lengthIx, baseIx, versionOf, cellOf, isBlock, hasCell, Sized}
+use Rattle.block.specs.Words.{exchangeIn, writeIn, takeIn, fillIn, roomIn, stored, appendAt, appendIn}
 use Rattle.block.specs.Sound.{View, viewOf, logOf, blockOf, Sound, Laid, Filling, Done}
 use Rattle.block.specs.Ways.{sized-block, block-cell, head-in}
 use Rattle.block.specs.Stores.{cells-left, lengths-left, places-left, entries-left, head-low, cell-low, cell-not-head, length-low, lengths-low, length-not-low, cell-apart, length-apart, cell-in, length-in}
@@ -160,3 +164,37 @@ module _ {n : ℕ} {w : List ℕ} (s : Sized n w) where
         set-sized (lengthIx n i) 0 (set-sized (cellIx n i) v s),
         log-emptied (set-sized (cellIx n i) v s) i h ∙ ap (λ (b : Block). withLog b i []) (cell-set s i h v .block),
       )
+
+-- ---- the number of words stays, whatever they are
+
+module _ (n : ℕ) (w : List ℕ) where
+  abbrev Long : {A : Type 0} → List ℕ × A → Type 0
+  Long x = length (x .0) ≡ length w
+
+  pub exchange-long : (l : ℕ) → length (exchangeIn n w l .0) ≡ length w
+  unfolding exchangeIn
+  exchange-long l =
+      if-case Long (isBlock n w)
+      (λ _. if-case Long (eqb (versionOf w) l) (λ _. if-case Long (leb l n) (λ _. length-set w 0 (l + 1)) (λ _. refl)) (λ _. refl))
+      (λ _. refl)
+
+  pub write-long : (i v : ℕ) → length (writeIn n w i v .0) ≡ length w
+  unfolding writeIn
+  write-long i v = if-case Long (hasCell n w i) (λ _. length-set w (cellIx n i) v) (λ _. refl)
+
+  pub take-long : length (takeIn n w .0) ≡ length w
+  unfolding takeIn
+  take-long = if-case Long (isBlock n w) (λ _. simp length-set) (λ _. refl)
+
+  pub fill-long : (i v : ℕ) → length (fillIn n w i v .0) ≡ length w
+  unfolding fillIn
+  fill-long i v = if-case Long (hasCell n w i) (λ _. simp length-set) (λ _. refl)
+
+  at-long : (r : Room) (i v o : ℕ) → length (appendAt r n w i v o .0) ≡ length w
+  unfolding appendAt stored
+  at-long (At s) i v o = simp length-set
+  at-long Full i v o = refl
+
+  pub append-long : (i v o : ℕ) → length (appendIn n w i v o .0) ≡ length w
+  unfolding appendIn
+  append-long i v o = at-long (roomIn n w i) i v o
