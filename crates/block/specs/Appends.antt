@@ -9,7 +9,7 @@ use native.Mathlib.Omega.{arith}
 use lib.ListN.{length, getD}
 use lib.Dec.{eqb}
 use borrow.Author.Tests.{eqb-true, eqb-false, lt-ltb, le-leb, eq-eqb, ne-eqb}
-use Rattle.rulebook.specs.Sizes.{mostCells, directoryWidth}
+use Rattle.rulebook.specs.Sizes.{mostCells}
 use Rattle.rulebook.specs.State.{listTo, withLog}
 use Rattle.rulebook.specs.Steps.{appended}
 use Rattle.rulebook.specs.Tests.{by-test}
@@ -25,21 +25,21 @@ use Rattle.block.specs.Sums.{sum-at, sum-slack}
 use Rattle.block.specs.Chunks.{space-most, space-least, fresh-before, fresh-chunk, fresh-offset, fresh-new, held-after, width-holds}
 use Rattle.block.specs.Plans.{Fresh, Held, Planned, room-planned, planned-wide}
 use Rattle.block.specs.Growth.{Grown, grown-sound, grown-other, grown-own}
-use Rattle.block.specs.Stores.{stored-version, stored-cell, stored-length, stored-lengths, stored-bump, stored-base, stored-bases, stored-entry, stored-entries, stored-long}
+use Rattle.block.specs.Stores.{Inside, stored-version, stored-cell, stored-length, stored-lengths, stored-bump, stored-base, stored-bases, stored-entry, stored-entries, stored-long}
 use Rattle.block.specs.Reads.{length-reads, log-length-at, entries-are}
 
 pub arena-room : (n : ℕ) → 2 * n ≤ arena n
 unfolding arena
 arena-room n = omega arith
 
+planned-inside : {n : ℕ} {w : List ℕ} {i m : ℕ} {s : Spot} → Planned n w i m s → Inside n w i s
+planned-inside p = record { sized = p .sized; cell = p .cell; chunk = planned-wide p; place = p .inside }
+
 -- ---- the stores at the spot that was found make the view grow
 
 module _ (n : ℕ) (w : List ℕ) (i m : ℕ) (s : Spot) (v o : ℕ) (L : Laid n w) (P : Planned n w i m s) where
   abbrev after : List ℕ
   after = stored n w i s v o
-
-  wide : s .chunk < directoryWidth n
-  wide = planned-wide P
 
   small : m < mostCells
   small = let f = L .sized .few in let h = P .short in omega arith
@@ -50,14 +50,14 @@ module _ (n : ℕ) (w : List ℕ) (i m : ℕ) (s : Spot) (v o : ℕ) (L : Laid n
 
   base-own : (j : ℕ) → chunkOf j ≡ chunkOf m → baseOf n after i (chunkOf j) ≡ s .base
   base-own j q =
-      ap (baseOf n after i) (q ∙ sym (P .chunk)) ∙ stored-base n w i s v o (L .sized) (P .cell) wide (P .inside)
+      ap (baseOf n after i) (q ∙ sym (P .chunk)) ∙ stored-base (planned-inside P) v o
 
   place-own : placeOf n after i m ≡ s .place
   place-own = place-by i m (s .base) (base-own m refl) ∙ sym (P .place)
 
   base-other : (k j : ℕ) → k < n → j < spaceOf (lengthOf n w k) → (k ≡ i → chunkOf j ≡ s .chunk → ⊥) → baseOf n after k (chunkOf j) ≡ baseOf n w k (chunkOf j)
   base-other k j h l d =
-      stored-bases n w i s v o (L .sized) (P .cell) wide (P .inside) k (chunkOf j) h
+      stored-bases (planned-inside P) v o k (chunkOf j) h
       (width-holds n (lengthOf n w k) j (L .sized .few) (L .sound .short k h) l) d
 
   -- a chunk that the logs had is where it was
@@ -84,8 +84,8 @@ module _ (n : ℕ) (w : List ℕ) (i m : ℕ) (s : Spot) (v o : ℕ) (L : Laid n
   stored-grown = record {
     cell = P .cell;
     was = sym (P .is);
-    grew = stored-length n w i s v o (L .sized) (P .cell) wide (P .inside) ∙ P .length;
-    others = stored-lengths n w i s v o (L .sized) (P .cell) wide (P .inside);
+    grew = stored-length (planned-inside P) v o ∙ P .length;
+    others = stored-lengths (planned-inside P) v o;
     kept = λ k j h l. place-by k j (baseOf n w k (chunkOf j)) (base-kept k j h l);
     kind =
         ⊎-elim
@@ -98,12 +98,12 @@ module _ (n : ℕ) (w : List ℕ) (i m : ℕ) (s : Spot) (v o : ℕ) (L : Laid n
         }))
         (λ (g : Held n w i m s). inr (record { stands = g .stands; bump = bump-own ∙ g .bump }))
         (P .kind);
-    put = ap (viewOf n after .entry) place-own ∙ stored-entry n w i s v o (L .sized) (P .cell) wide (P .inside);
-    rest = λ p d. stored-entries n w i s v o (L .sized) (P .cell) wide (P .inside) p (λ q. d (q ∙ sym place-own));
+    put = ap (viewOf n after .entry) place-own ∙ stored-entry (planned-inside P) v o;
+    rest = λ p d. stored-entries (planned-inside P) v o p (λ q. d (q ∙ sym place-own));
   }
     where
       bump-own : bumpOf after ≡ s .bump
-      bump-own = stored-bump n w i s v o (L .sized) (P .cell) wide (P .inside)
+      bump-own = stored-bump (planned-inside P) v o
 
 -- ---- a sound block with fewer than n entries has room
 
@@ -154,15 +154,15 @@ module _ (n : ℕ) (w : List ℕ) (i m : ℕ) (s : Spot) (v o : ℕ) (L : Laid n
       ∙ ap (λ (x : List Entry). x ++ (record { version = v; old = o } ∷ [])) (sym (listTo-get n (logOf (viewOf n w)) i [] (P .cell)))
 
   next-sized : Sized n next
-  next-sized = let z = L .sized in record { some = z .some; few = z .few; long = stored-long n w i s v o z (P .cell) (planned-wide P) (P .inside) ∙ z .long }
+  next-sized = let z = L .sized in record { some = z .some; few = z .few; long = stored-long (planned-inside P) v o ∙ z .long }
 
   stored-done : Done n w next (appended (blockOf n w) i v o)
   unfolding blockOf withLog
   stored-done = record {
     sized = next-sized;
     block = λ t. record {
-      version = stored-version n w i s v o (L .sized) (P .cell) (planned-wide P) (P .inside) t;
-      cells = listTo-same n (cellOf n next) (cellOf n w) (stored-cell n w i s v o (L .sized) (P .cell) (planned-wide P) (P .inside)) t;
+      version = stored-version (planned-inside P) v o t;
+      cells = listTo-same n (cellOf n next) (cellOf n w) (stored-cell (planned-inside P) v o) t;
       logs = listTo-set [] n i (logOf (viewOf n w)) (logOf (viewOf n next)) _ (P .cell) own (grown-other few (arena-room n) (L .sound) (stored-grown n w i m s v o L P) less) t;
     };
     laid = λ _. record { sized = next-sized; sound = grown-sound few (arena-room n) (L .sound) (stored-grown n w i m s v o L P) less };

@@ -1,6 +1,7 @@
 pub mod Layout
 pub mod Words
 pub mod Sound
+pub mod Sample
 pub mod Sums
 pub mod Chunks
 pub mod Ways

@@ -138,7 +138,14 @@ module _ (w : List ℕ) (x₁ a₁ x₂ a₂ x₃ a₃ x₄ a₄ x₅ a₅ : ℕ
 
 -- ---- what an append stores
 
-module _ (n : ℕ) (w : List ℕ) (i : ℕ) (s : Spot) (v o : ℕ) (z : Sized n w) (cell : i < n) (chunk : s .chunk < directoryWidth n) (place : s .place < arena n) where
+-- the words that it writes are words of the block
+pub record Inside (n : ℕ) (w : List ℕ) (i : ℕ) (s : Spot) : Type 0 where
+  pub sized : Sized n w
+  pub cell : i < n
+  pub chunk : s .chunk < directoryWidth n
+  pub place : s .place < arena n
+
+module _ {n : ℕ} {w : List ℕ} {i : ℕ} {s : Spot} (F : Inside n w i s) (v o : ℕ) where
   abbrev b : ℕ
   b = baseIx n i (s .chunk)
 
@@ -159,7 +166,7 @@ module _ (n : ℕ) (w : List ℕ) (i : ℕ) (s : Spot) (v o : ℕ) (z : Sized n 
 
   pub stored-length : lengthOf n (stored n w i s v o) i ≡ s .length
   unfolding stored
-  stored-length = at-five w b (s .base) 1 (s .bump) e v (e + 1) o (lengthIx n i) (s .length) (length-in z i cell)
+  stored-length = at-five w b (s .base) 1 (s .bump) e v (e + 1) o (lengthIx n i) (s .length) (length-in (F .sized) i (F .cell))
 
   pub stored-lengths : (k : ℕ) → k < n → (k ≡ i → ⊥) → lengthOf n (stored n w i s v o) k ≡ lengthOf n w k
   unfolding lengthIx baseIx entryIx directoryWidth
@@ -167,13 +174,13 @@ module _ (n : ℕ) (w : List ℕ) (i : ℕ) (s : Spot) (v o : ℕ) (z : Sized n 
 
   pub stored-bump : bumpOf (stored n w i s v o) ≡ s .bump
   unfolding stored lengthIx entryIx
-  stored-bump = at-two w b (s .base) 1 (s .bump) e v (e + 1) o (lengthIx n i) (s .length) (λ q. omega arith) (λ q. omega arith) (λ q. omega arith) (head-in z 1 (omega arith))
+  stored-bump = at-two w b (s .base) 1 (s .bump) e v (e + 1) o (lengthIx n i) (s .length) (λ q. omega arith) (λ q. omega arith) (λ q. omega arith) (head-in (F .sized) 1 (omega arith))
 
   pub stored-base : baseOf n (stored n w i s v o) i (s .chunk) ≡ s .base
   unfolding stored lengthIx baseIx entryIx directoryWidth blockWords
   stored-base =
       at-one w b (s .base) 1 (s .bump) e v (e + 1) o (lengthIx n i) (s .length) (λ q. omega arith) (λ q. omega arith) (λ q. omega arith) (λ q. omega arith)
-      (let l = z .long in omega arith)
+      (let l = F .sized .long in omega arith)
 
   pub stored-bases : (k c : ℕ) → k < n → c < directoryWidth n → (k ≡ i → c ≡ s .chunk → ⊥) → baseOf n (stored n w i s v o) k c ≡ baseOf n w k c
   unfolding lengthIx baseIx entryIx directoryWidth
@@ -183,7 +190,7 @@ module _ (n : ℕ) (w : List ℕ) (i : ℕ) (s : Spot) (v o : ℕ) (z : Sized n 
   pub stored-entry : entryOf n (stored n w i s v o) (s .place) ≡ record { version = v; old = o }
   unfolding stored lengthIx entryIx directoryWidth blockWords arena
   stored-entry =
-      let l = z .long in
+      let l = F .sized .long in
       ap₂ (λ (x y : ℕ). record { version = x; old = y })
       (at-three w b (s .base) 1 (s .bump) e v (e + 1) o (lengthIx n i) (s .length) (λ q. omega arith) (λ q. omega arith) (omega arith))
       (at-four w b (s .base) 1 (s .bump) e v (e + 1) o (lengthIx n i) (s .length) (λ q. omega arith) (omega arith))
