@@ -1,7 +1,7 @@
 -- The spot that an append has found: what it says of the words, and what the ways out of `append` owe.
 -- Rests on Rooms.
 use Prim.Native.Nat.{ℕ, _+_, _≤_, _<_}
-use mathlib.Core.Path.{_≡_, refl, sym, _∙_, subst}
+use mathlib.Core.Path.{_≡_, refl, sym, ap, _∙_, subst}
 use mathlib.Core.Logic.{_⊎_, inl, inr}
 use mathlib.Core.Bool.{true, false}
 use mathlib.Core.List.{List}
@@ -98,7 +98,7 @@ planned-wide {n} {w} {i} {m} {s} p =
 module _ (r : Room) (n : ℕ) (w : List ℕ) (i : ℕ) (e : r ≡ roomIn n w i) where
   pub append-no : (v o : ℕ) → r ≡ Full → (w, false) ≡ appendIn n w i v o
   unfolding appendIn appendAt
-  append-no v o q = simp (sym e ∙ q)
+  append-no v o q = sym (ap (λ (x : Room). appendAt x n w i v o) (sym e ∙ q))
 
   module _ (s : Spot) (q : r ≡ At s) where
     plan : (m : ℕ) × Planned n w i m s

@@ -90,8 +90,11 @@ module _ (r : Bool) (n : ℕ) (w : List ℕ) (e : r ≡ isBlock n w) where
     pub first-in : 0 < length w
     first-in = head-in (block-sized n w yes) 0 (omega arith)
 
-    pub second-in : (v : ℕ) → 1 < length (set w 0 v)
-    second-in v = simp length-set (head-in (block-sized n w yes) 1 (omega arith))
+    pub second-in : 1 < length w
+    second-in = head-in (block-sized n w yes) 1 (omega arith)
+
+    pub second-after : (x v : ℕ) → 1 < length (set w x v)
+    second-after x v = simp length-set second-in
 
     pub has-as : (i : ℕ) → ltb i n ≡ hasCell n w i
     unfolding hasCell
@@ -121,7 +124,7 @@ module _ (r : Bool) (n : ℕ) (w : List ℕ) (e : r ≡ isBlock n w) where
     unfolding takeIn
     take-yes = simp yes
 
-pub ruleset blocks = (has-no, has-as, version-no, version-yes, first-in, second-in, take-no, take-yes)
+pub ruleset blocks = (has-no, has-as, version-no, version-yes, first-in, second-in, second-after, take-no, take-yes)
 
 pub ruleset exchanges = (exchange-no, exchange-same, exchange-past, exchange-raised, next-small, first-in)
 

@@ -99,15 +99,16 @@ fn fresh_room(b: &[u32], n: u32, m: u32) -> Room
 {
     let u = b[BUMP];
     let at = wide(u);
-    if places(n) < at + wide(m + 1) {
+    let more = m + 1;
+    if places(n) < at + wide(more) {
         return Room::Full;
     }
     Room::At(Spot {
         chunk: chunk(m),
         base: u,
-        bump: u + (m + 1),
+        bump: u + more,
         place: at,
-        length: m + 1,
+        length: more,
     })
 }
 
