@@ -101,7 +101,7 @@ pub record Sized (n : ℕ) (w : List ℕ) : Type 0 where
 pub record Reach (n : ℕ) (w : List ℕ) (i j : ℕ) : Type 0 where
   pub sized : Sized n w
   pub cell : i < n
-  pub small : j < 4294967295
+  pub small : j < mostPlaces
   pub chunk : chunkOf j < directoryWidth n
 
 -- r is where word x of a block of n cells lies

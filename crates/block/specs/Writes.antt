@@ -1,5 +1,5 @@
 -- What the writing functions leave of a block: exactly the machine's change, and soundness where it was.
--- Rests on Reads, Stores, Plans and Growth.
+-- Rests on Reads, Stores and Ways.
 use Prim.Native.Nat.{ℕ, _+_, _≤_, _<_}
 use mathlib.Core.Path.{_≡_, refl, sym, ap, _∙_, subst}
 use mathlib.Core.Bool.{true}
