@@ -333,8 +333,8 @@ unfoldable pub readsOld : Looked → ℕ → Task → Act
 readsOld looked.Bad t k = refused 2
 readsOld (looked.Word v) t k = goes touch.Nothing t (moved k stage.Append (guessed (k .hand) v)) reply.Quiet
 
-unfoldable pub appends : ℕ → Task → Act
-appends t k =
+unfoldable pub appendsEntry : ℕ → Task → Act
+appendsEntry t k =
     goes (touch.Append (k .block) (k .cell) (record { version = k .number; old = k .hand .guess })) t (moved k stage.Write (k .hand)) reply.Quiet
 
 unfoldable pub writesNew : Sight → ℕ → Task → Act
@@ -361,7 +361,7 @@ planAt stage.FillNew e t k = fillsNew e t k
 planAt (stage.Getting r) e t k = getGoes (readIn r e k) t k
 planAt stage.Exchange e t k = exchangesOn (e .version (k .block)) (e .sizes .n) t k
 planAt stage.Read e t k = readsOld (e .cell (k .block) (k .cell)) t k
-planAt stage.Append e t k = appends t k
+planAt stage.Append e t k = appendsEntry t k
 planAt stage.Write e t k = writesNew e t k
 planAt stage.TakeCopy e t k = takes (freeIn e) e t k (stage.Copying reading.Guess)
 planAt (stage.Copying r) e t k = copyGoes (readIn r e k) t k

@@ -17,7 +17,7 @@ use Rattle.rulebook.specs.History.{fresh, reading}
 use Rattle.rulebook.specs.Sizes.{lastSerial, slotOf}
 use Rattle.rulebook.specs.State.{freed, handOf, idle}
 use Rattle.rulebook.specs.Steps.{aimed, answer, guessed, middle, moved, probed, probedAt, searching}
-use Rattle.acts.specs.Plans.{CellRead, InHand, afterBounds, afterExchange, afterFill, afterLength, afterVersion, appends, begunOn, copyGoes, ends, exchangesOn, fillsCopy, finishes, getGoes, givesUp, goes, maker, pageGoes, pageSettles, readEntry, readGuess, readLength, readVersion, readsOld, refused, reservedAs, reservesFor}
+use Rattle.acts.specs.Plans.{CellRead, InHand, afterBounds, afterExchange, afterFill, afterLength, afterVersion, appendsEntry, begunOn, copyGoes, ends, exchangesOn, fillsCopy, finishes, getGoes, givesUp, goes, maker, pageGoes, pageSettles, readEntry, readGuess, readLength, readVersion, readsOld, refused, reservedAs, reservesFor}
 use Rattle.acts.specs.declared.Act.{Act}
 use Rattle.acts.specs.declared.Read.{Read}
 use Rattle.acts.specs.declared.SlotRow.{SlotRow}
@@ -236,8 +236,8 @@ module _ (t : ℕ) (k z : Task) (a : Act) where
   unfolding readsOld
   old-read x v q e f g p = p ∙ rw (e, g, f)
 
-  pub append-is : z ≡ moved k stage.Write (k .hand) → a ≡ goes (touch.Append (k .block) (k .cell) (record { version = k .number; old = k .hand .guess })) t z reply.Quiet → a ≡ appends t k
-  unfolding appends
+  pub append-is : z ≡ moved k stage.Write (k .hand) → a ≡ goes (touch.Append (k .block) (k .cell) (record { version = k .number; old = k .hand .guess })) t z reply.Quiet → a ≡ appendsEntry t k
+  unfolding appendsEntry
   append-is e p = p ∙ rw e
 
   pub copy-filled : (n v : ℕ) → v ≡ answer (k .hand) → z ≡ afterFill n k → a ≡ goes (touch.Fill (k .target) (k .hand .cell) v) t z reply.Quiet → a ≡ fillsCopy n t k

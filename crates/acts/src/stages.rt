@@ -28,7 +28,7 @@ ghost use Prim.Native.Nat.{_+_, _<_};
 ghost use Prim.Native.Nat.{_*_};
 ghost use Rattle.rulebook.specs.State.{handOf};
 ghost use Rattle.rulebook.specs.Steps.{aimed, moved};
-ghost use Rattle.acts.specs.Plans.{goes, getGoes, pageSettles, pageGoes, copyGoes, finishes, givesUp, afterExchange, exchangesOn, readsOld, appends, afterFill, fillsCopy, InHand, CellRead};
+ghost use Rattle.acts.specs.Plans.{goes, getGoes, pageSettles, pageGoes, copyGoes, finishes, givesUp, afterExchange, exchangesOn, readsOld, appendsEntry, afterFill, fillsCopy, InHand, CellRead};
 
 // ---- a get, a page, a copy's reading
 
@@ -250,8 +250,8 @@ pub fn reads_old(x: Looked, t: u32, k: Task) -> Act
 }
 
 // Append (L, value read) to the cell's log.
-pub fn appends(t: u32, k: Task) -> Act
-    ensures { λ a. ⌜ a ≡ appends t k ⌝ }
+pub fn appends_entry(t: u32, k: Task) -> Act
+    ensures { λ a. ⌜ a ≡ appendsEntry t k ⌝ }
 {
     let w = k.hand;
     let e = Entry {
