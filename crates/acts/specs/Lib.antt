@@ -1,4 +1,5 @@
 pub mod Sight
 pub mod Plans
+pub mod Looks
 pub mod Acted
 pub mod Ways

@@ -28,6 +28,12 @@ pub enum Found {
     None,
 }
 
+// What a count of rows has come to: a bad row, or a number.
+pub enum Counted {
+    Bad,
+    Of(u32),
+}
+
 // A live handle's slot, or the refusal.
 pub enum Live {
     Not(u32),
