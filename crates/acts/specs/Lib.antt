@@ -3,3 +3,4 @@ pub mod Plans
 pub mod Looks
 pub mod Acted
 pub mod Ways
+pub mod Rows

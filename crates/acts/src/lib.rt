@@ -1,5 +1,6 @@
 // What a call does to the store, as a value: it is decided from what was read, and then done in one place.
 pub mod reading;
+pub mod searches;
 pub mod stages;
 pub mod starts;
 pub mod tasks;

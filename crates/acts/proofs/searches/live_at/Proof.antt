@@ -1,0 +1,15 @@
+use Rattle.acts.specs.Rows.{rows}
+use borrow.Author.Needs.{needs}
+use Rattle.acts.proofs.searches.live_at.Statement.{statement}
+use Rattle.acts.proofs.searches.live_at.Tie as tie
+
+pub live-at-spec : {M : Type 1} → statement M
+live-at-spec =
+    tie.close
+    (tie.spec
+    (λ c. search (needs, rows))
+    (λ c. search (needs, rows))
+    (λ c κs. search (needs, rows))
+    (λ c κs. search (needs, rows))
+    (λ c. search (needs, rows))
+    (λ c. search (needs, rows)))
