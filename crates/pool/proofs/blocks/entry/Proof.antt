@@ -1,0 +1,19 @@
+use Rattle.pool.specs.Lends.{lends}
+use Rattle.pool.specs.Parts.{part}
+use Rattle.pool.specs.Places.{blockPart}
+use borrow.Author.Needs.{needs}
+use Rattle.pool.proofs.blocks.entry.Statement.{statement}
+use Rattle.pool.proofs.blocks.entry.Tie as tie
+
+pub entry-spec : {M : Type 1} → statement M
+unfolding part blockPart
+entry-spec =
+    tie.close
+    (tie.spec
+    (λ c κs. search (needs, lends))
+    (λ c. search (needs, lends))
+    (λ c. search (needs, lends))
+    (λ c. search (needs, lends))
+    (λ c. search (needs, lends))
+    (λ c κs. search (needs, lends))
+    (λ c. cc))

@@ -1,0 +1,14 @@
+use Rattle.pool.specs.Ways.{tests}
+use Rattle.pool.specs.Rows.{standsIn}
+use borrow.Author.Needs.{needs}
+use Rattle.pool.proofs.rows.stands.Statement.{statement}
+use Rattle.pool.proofs.rows.stands.Tie as tie
+
+pub stands-spec : {M : Type 1} → statement M
+unfolding standsIn
+stands-spec =
+    tie.close
+    (tie.spec
+    (λ c. search (needs, tests))
+    (λ c. search (needs, tests))
+    (λ c. search (needs, tests)))

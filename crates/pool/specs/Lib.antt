@@ -1,0 +1,10 @@
+pub mod Parts
+pub mod Codes
+pub mod Rows
+pub mod Places
+pub mod Header
+pub mod Pool
+pub mod Sizing
+pub mod Ways
+pub mod Lends
+pub mod Does

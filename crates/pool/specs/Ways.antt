@@ -1,0 +1,189 @@
+-- What each way out of a function on the header or on a row owes, with the premises as the code's tests and calls give them: rules for the
+-- proofs of the functions. Rests on Header and Rows.
+use Prim.Native.Nat.{ℕ, _+_, _-_, _/_, _≤_, _<_, min}
+use mathlib.Core.Path.{_≡_, refl, sym, ap, ap₂, _∙_}
+use mathlib.Core.Bool.{Bool, true, false, not, _&&_}
+use mathlib.Core.List.{List, [], _∷_, _++_}
+use native.Mathlib.Nat.{min-eq-left, min-eq-right, le-min, le-div-iff-mul-le, div-lt-iff-lt-mul}
+use native.Mathlib.Omega.{arith}
+use lib.ListN.{length, getD, set, drop, drop-of-length-le}
+use lib.Seq.{sets, sets-eq}
+use lib.Dec.{leb, ltb, eqb}
+use borrow.Author.Tests.{leb-true, ltb-true, not-true, not-false, le-leb, lt-leb, le-ltb, lt-ltb, eq-eqb, ne-eqb}
+use Rattle.rulebook.specs.Sizes.{mostCells, mostHandles, mostTasks, mostBlocks, mostWords, controlWords, blockWords, room, within, opens, lastSerial}
+use Rattle.rulebook.specs.Tests.{by-test, and-both}
+use Rattle.rulebook.specs.declared.Sizes.{Sizes}
+use Rattle.rulebook.specs.declared.Stage.{Stage}
+use Rattle.rulebook.specs.declared.Status.{Status}
+use Rattle.rulebook.specs.declared.Slot.{Slot}
+use Rattle.rulebook.specs.declared.Task.{Task}
+use Rattle.acts.specs.declared.SlotRow.the-variants as slotrow
+use Rattle.acts.specs.declared.TaskRow.the-variants as taskrow
+use Rattle.pool.specs.declared.Header.{Header}
+use Rattle.pool.specs.declared.Header.the-variants as header
+use Rattle.pool.specs.Sizing.{Limits, limited-says, opens-by, room-none, room-some}
+use Rattle.pool.specs.Codes.{codeOf, stageFrom, isCode, statusCode, statusFrom}
+use Rattle.pool.specs.Rows.{bitOf, slotWords, slotRead, slotFits, slotRowOf, taskFields, taskWords, taskRead, standsIn, worksIn, taskFits, taskRowOf}
+use Rattle.pool.specs.Header.{mark, form, limited, sizesOf, sizesIn, headed, headerFields, headerOf}
+
+-- at a return whose case was found by tests on numbers
+pub ruleset tests = (le-leb, lt-leb, le-ltb, lt-ltb, eq-eqb, ne-eqb)
+
+-- ---- the sizes
+
+module _ (n h t words : ℕ) where
+  module _ (r : Bool) (e : r ≡ limited n h t) where
+    pub sizes-unlimited : not r ≡ true → header.Bad ≡ sizesIn n h t words
+    unfolding sizesIn
+    sizes-unlimited q = rw (opens-by n h t words, sym e ∙ not-true r q)
+
+    module _ (q : not r ≡ false) where
+      limits : Limits n h t
+      limits = limited-says n h t (sym e ∙ not-false r q)
+
+      pub sizes-cells : n ≤ mostCells
+      sizes-cells = limits .cells
+
+      pub sizes-handles : h ≤ mostHandles
+      sizes-handles = limits .handles
+
+      pub sizes-tasks : t ≤ mostTasks
+      sizes-tasks = limits .tasks
+
+      pub sizes-long : mostWords < words → header.Bad ≡ sizesIn n h t words
+      unfolding sizesIn
+      sizes-long l = rw (opens-by n h t words, sym e ∙ not-false r q, lt-leb words mostWords l)
+
+      module _ (few : words ≤ mostWords) (c z : ℕ) (ec : c ≡ controlWords h t) (ez : z ≡ blockWords n) where
+        pub sizes-short : words < c + z → header.Bad ≡ sizesIn n h t words
+        unfolding sizesIn
+        sizes-short l =
+            rw (opens-by n h t words, sym e ∙ not-false r q, le-leb words mostWords few, room-none n h t words (omega arith))
+
+        module _ (l : c + z ≤ words) where
+          good : header.Good (sizesOf n h t words) ≡ sizesIn n h t words
+          unfolding sizesIn
+          good = rw (opens-by n h t words, sym e ∙ not-false r q, le-leb words mostWords few, le-leb 1 (room n h t words) (room-some n h t words (omega arith)))
+
+          pub sizes-few : (words - c) / z < mostBlocks → header.Good (record { n = n; h = h; t = t; b = (words - c) / z }) ≡ sizesIn n h t words
+          unfolding room
+          sizes-few f =
+              ap (λ (b : ℕ). header.Good (record { n = n; h = h; t = t; b = b }))
+              (sym (min-eq-right {n = (words - c) / z} {m = mostBlocks} (omega arith)) ∙ ap₂ (λ (x y : ℕ). min mostBlocks ((words - x) / y)) ec ez)
+              ∙ good
+
+          pub sizes-many : mostBlocks ≤ (words - c) / z → header.Good (record { n = n; h = h; t = t; b = mostBlocks }) ≡ sizesIn n h t words
+          unfolding room
+          sizes-many f =
+              ap (λ (b : ℕ). header.Good (record { n = n; h = h; t = t; b = b }))
+              (sym (min-eq-left {n = mostBlocks} {m = (words - c) / z} f) ∙ ap₂ (λ (x y : ℕ). min mostBlocks ((words - x) / y)) ec ez)
+              ∙ good
+
+pub ruleset sizing = (sizes-unlimited, sizes-cells, sizes-handles, sizes-tasks, sizes-long, sizes-short, sizes-few, sizes-many)
+
+-- ---- rows
+
+pub slot-good : (d : Sizes) (w : List ℕ) (s : Status) → getD w 1 0 < 3 → getD w 2 0 < d .b → getD w 3 0 ≤ d .n → getD w 0 0 ≤ lastSerial → s ≡ statusFrom (getD w 1 0)
+    → slotrow.Row (record { serial = getD w 0 0; status = s; block = getD w 2 0; number = getD w 3 0 }) ≡ slotRowOf d w
+unfolding slotRowOf slotFits slotRead
+slot-good d w s a b c f e = rw (e, lt-ltb _ _ a, lt-ltb _ _ b, le-leb _ _ c, le-leb _ _ f)
+
+pub slot-written : (row : List ℕ) (x : Slot) (s : ℕ) → length row ≡ 4 → s ≡ statusCode (x .status)
+    → set (set (set (set row 0 (x .serial)) 1 s) 2 (x .block)) 3 (x .number) ≡ slotWords x
+unfolding slotWords
+slot-written row x s h e =
+    sets-eq (x .serial ∷ s ∷ x .block ∷ x .number ∷ []) row 0 (omega arith)
+    ∙ ap (λ (l : List ℕ). (x .serial ∷ s ∷ x .block ∷ x .number ∷ []) ++ l) (drop-of-length-le row {i = 4} (omega arith))
+    ∙ ap (λ (y : ℕ). x .serial ∷ y ∷ x .block ∷ x .number ∷ []) e
+
+pub task-got : (w : List ℕ) (g : Stage) → g ≡ stageFrom (getD w 0 0)
+    → (record {
+      stage = g;
+      slot = getD w 1 0;
+      block = getD w 2 0;
+      number = getD w 3 0;
+      cell = getD w 4 0;
+      value = getD w 5 0;
+      until = getD w 6 0;
+      fresh = getD w 7 0;
+      target = getD w 8 0;
+      hand = taskRead w .hand;
+      steps = getD w 16 0;
+    }) ≡ taskRead w
+unfolding taskRead
+task-got w g e = rw e
+
+module _ (d : Sizes) (w : List ℕ) (k : Task) (e : k ≡ taskRead w) (c : ℕ) (f : c ≡ codeOf (k .stage)) where
+  told : isCode (getD w 0 0) ≡ eqb c (getD w 0 0)
+  unfolding isCode taskRead
+  told = rw (f, e)
+
+  pub task-coded : (c ≡ getD w 0 0 → ⊥) → taskrow.Bad ≡ taskRowOf d w
+  unfolding taskRowOf
+  task-coded h = rw (told, ne-eqb _ _ h)
+
+  module _ (h : c ≡ getD w 0 0) (x : Bool) (g : x ≡ taskFits d k) where
+    pub task-bad : not x ≡ true → taskrow.Bad ≡ taskRowOf d w
+    unfolding taskRowOf
+    task-bad q = rw (told, eq-eqb _ _ h, ← e, ← g, not-true x q)
+
+    pub task-good : not x ≡ false → taskrow.Row k ≡ taskRowOf d w
+    unfolding taskRowOf
+    task-good q = rw (told, eq-eqb _ _ h, ← e, ← g, not-false x q)
+
+module _ (d : Sizes) (k : Task) (x : Bool) (g : x ≡ standsIn d k) where
+  pub fits-not : not x ≡ true → false ≡ taskFits d k
+  unfolding taskFits
+  fits-not q = rw (← g, not-true x q)
+
+  pub fits-as : (y : Bool) → not x ≡ false → y ≡ worksIn d k → y ≡ taskFits d k
+  unfolding taskFits
+  fits-as y q i = rw (← g, not-false x q) i
+
+pub task-written : (row : List ℕ) (k : Task) (g b : ℕ) → length row ≡ 32 → g ≡ codeOf (k .stage) → b ≡ bitOf (k .hand .found)
+    → sets row 0 (g ∷ k .slot ∷ k .block ∷ k .number ∷ k .cell ∷ k .value ∷ k .until ∷ k .fresh ∷ k .target
+    ∷ k .hand .cell ∷ k .hand .guess ∷ k .hand .lo ∷ k .hand .hi ∷ b ∷ k .hand .candidate ∷ k .hand .version ∷ k .steps ∷ []) ≡ taskWords k ++ drop taskFields row
+unfolding taskWords
+task-written row k g b h e f =
+    sets-eq (words g b) row 0 (omega arith) ∙ ap (λ (y : ℕ × ℕ). words (y .0) (y .1) ++ drop 17 row) (λ i. (e i, f i))
+  where
+    words : ℕ → ℕ → List ℕ
+    words x y =
+        x ∷ k .slot ∷ k .block ∷ k .number ∷ k .cell ∷ k .value ∷ k .until ∷ k .fresh ∷ k .target
+        ∷ k .hand .cell ∷ k .hand .guess ∷ k .hand .lo ∷ k .hand .hi ∷ y ∷ k .hand .candidate ∷ k .hand .version ∷ k .steps ∷ []
+
+pub ruleset rowing = (slot-good, slot-written, task-got, task-written)
+
+pub ruleset tasking = (task-coded, task-bad, task-good, fits-not, fits-as)
+
+-- ---- the header
+
+pub header-short : (p : List ℕ) → length p < 16 → header.Bad ≡ headerOf p
+unfolding headerOf
+header-short p h = rw (lt-leb 16 (length p) h)
+
+module _ (p : List ℕ) (l : 16 ≤ length p) where
+  pub header-mark : (getD p 0 0 ≡ mark → ⊥) → header.Bad ≡ headerOf p
+  unfolding headerOf
+  header-mark a = rw (le-leb 16 (length p) l, ne-eqb (getD p 0 0) mark a)
+
+  module _ (a : getD p 0 0 ≡ mark) where
+    pub header-form : (getD p 5 0 ≡ form → ⊥) → header.Bad ≡ headerOf p
+    unfolding headerOf
+    header-form b = rw (le-leb 16 (length p) l, eq-eqb (getD p 0 0) mark a, ne-eqb (getD p 5 0) form b)
+
+    module _ (b : getD p 5 0 ≡ form) (x : ℕ) (e : x ≡ getD p 4 0) where
+      pub header-length : (x ≡ length p → ⊥) → header.Bad ≡ headerOf p
+      unfolding headerOf
+      header-length c = rw (le-leb 16 (length p) l, eq-eqb (getD p 0 0) mark a, eq-eqb (getD p 5 0) form b, ← e, ne-eqb x (length p) c)
+
+      pub header-says : (r : Header) → x ≡ length p → r ≡ sizesIn (getD p 1 0) (getD p 2 0) (getD p 3 0) (length p) → r ≡ headerOf p
+      unfolding headerOf
+      header-says r c f = f ∙ rw (le-leb 16 (length p) l, eq-eqb (getD p 0 0) mark a, eq-eqb (getD p 5 0) form b, ← e, eq-eqb x (length p) c)
+
+pub ruleset headers = (header-short, header-mark, header-form, header-length, header-says)
+
+pub header-headed : (part : List ℕ) (n h t words : ℕ) → 16 ≤ length part
+    → sets part 0 (mark ∷ n ∷ h ∷ t ∷ words ∷ form ∷ []) ≡ headed n h t words ++ drop headerFields part
+unfolding headed
+header-headed part n h t words l = sets-eq (mark ∷ n ∷ h ∷ t ∷ words ∷ form ∷ []) part 0 (omega arith)

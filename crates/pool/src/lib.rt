@@ -1,0 +1,60 @@
+// The lent words of a store: what the header says, where rows and blocks lie, and the only two functions that write them, `apply` and `open`.
+mod blocks;
+mod codes;
+mod doing;
+mod headers;
+mod opening;
+mod rows;
+
+pub use blocks::cell;
+pub use blocks::entry;
+pub use blocks::log_length;
+pub use blocks::version;
+pub use doing::apply;
+pub use headers::header_of;
+pub use opening::open;
+pub use rows::load_slot;
+pub use rows::load_task;
+use rulebook::Sizes;
+ghost use mathlib.Core.Path.{_≡_};
+ghost use Prim.Native.Nat.{_≤_, _<_};
+ghost use Rattle.rulebook.specs.Sizes.{mostCells, mostHandles, mostTasks, controlWords, blockWords};
+
+// The mark in word 0, and the number in word 5.
+const MARK: u32 = 0x00494B56;
+
+const FORM: u32 = 1;
+
+// What the header says: nothing that describes the pool, or the sizes of a store.
+pub enum Header {
+    Bad,
+    Good(Sizes),
+}
+
+// Words s to e of a pool.
+pub struct Extent {
+    pub start: usize,
+    pub end: usize,
+}
+
+fn wide(x: u32) -> usize
+    ensures { λ r. ⌜ (r ≡ x) × (r < 4294967296) ⌝ }
+{
+    x as usize
+}
+
+// How many words the header and the rows take.
+fn control_words(h: u32, t: u32) -> usize
+    requires { ⌜ (h ≤ mostHandles) × (t ≤ mostTasks) ⌝ }
+    ensures { λ r. ⌜ (r ≡ controlWords h t) × (r ≤ 1552) ⌝ }
+{
+    wide(16 + 4 * h + 32 * t)
+}
+
+// How many words a block takes.
+fn block_words(n: u32) -> usize
+    requires { ⌜ n ≤ mostCells ⌝ }
+    ensures { λ r. ⌜ (r ≡ blockWords n) × (r ≤ 81936) ⌝ }
+{
+    wide(20 * n + 16)
+}

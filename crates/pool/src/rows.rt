@@ -1,0 +1,229 @@
+// Handle rows and task rows: where they lie, their words, and the ranges that are tested where a row is read.
+use super::codes::code_of;
+use super::codes::stage_from;
+use super::codes::status_code;
+use super::codes::status_from;
+use super::wide;
+use acts::SlotRow;
+use acts::TaskRow;
+use rulebook::Hand;
+use rulebook::Sizes;
+use rulebook::Slot;
+use rulebook::Task;
+ghost use mathlib.Core.Path.{_≡_};
+ghost use mathlib.Core.List.{_++_};
+ghost use Prim.Native.Nat.{_+_, _<_, _≤_};
+ghost use lib.ListN.{length, drop};
+ghost use Rattle.rulebook.specs.Sizes.{mostHandles, mostTasks, handleRow, taskRow};
+ghost use Rattle.pool.specs.Places.{Spans, slotStart, taskStart};
+ghost use Rattle.pool.specs.Rows.{bitOf, slotWords, taskWords, taskFields, taskRead, standsIn, worksIn, taskFits, slotRowOf, taskRowOf};
+ghost use Rattle.pool.specs.Pool.{slotIn, taskIn, putSlot, putTask};
+
+// ---- handle rows
+
+fn write_slot(row: &mut [u32], x: Slot)
+    requires { ⌜ length (now row) ≡ handleRow ⌝ }
+    ensures { λ _. ⌜ now (row .exit) ≡ slotWords x ⌝ }
+{
+    let s = x.status;
+    row[0] = x.serial;
+    row[1] = status_code(s);
+    row[2] = x.block;
+    row[3] = x.number;
+}
+
+fn read_slot(row: &[u32], d: Sizes) -> SlotRow
+    requires { ⌜ length (now row) ≡ handleRow ⌝ }
+    ensures { λ r. ⌜ r ≡ slotRowOf d (now (row .entry)) ⌝ }
+{
+    if 3 <= row[1] {
+        return SlotRow::Bad;
+    }
+    if d.b <= row[2] {
+        return SlotRow::Bad;
+    }
+    if d.n < row[3] {
+        return SlotRow::Bad;
+    }
+    if 16777215 < row[0] {
+        return SlotRow::Bad;
+    }
+    let s = status_from(row[1]);
+    SlotRow::Row(Slot {
+        serial: row[0],
+        status: s,
+        block: row[2],
+        number: row[3],
+    })
+}
+
+fn slot_start(j: u32) -> usize
+    requires { ⌜ j < mostHandles ⌝ }
+    ensures { λ r. ⌜ r ≡ slotStart j ⌝ }
+{
+    wide(16 + 4 * j)
+}
+
+// The row of slot j.
+pub fn load_slot(pool: &[u32], d: Sizes, j: u32) -> SlotRow
+    requires { ⌜ Spans d (now pool) × (j < d .h) ⌝ }
+    ensures { λ r. ⌜ r ≡ slotIn (now (pool .entry)) d j ⌝ }
+{
+    let s = slot_start(j);
+    read_slot(&pool[s..s + 4], d)
+}
+
+pub fn store_slot(pool: &mut [u32], d: Sizes, j: u32, x: Slot)
+    requires { ⌜ Spans d (now pool) × (j < d .h) ⌝ }
+    ensures { λ _. ⌜ now (pool .exit) ≡ putSlot (now (pool .entry)) j x ⌝ }
+{
+    let s = slot_start(j);
+    write_slot(&mut pool[s..s + 4], x);
+}
+
+// ---- task rows
+
+fn bit(x: bool) -> u32
+    ensures { λ r. ⌜ r ≡ bitOf x ⌝ }
+{
+    if x { 1 } else { 0 }
+}
+
+// Writes the words that a task has; the others of the row stay as they are.
+fn write_task(row: &mut [u32], k: Task)
+    requires { ⌜ length (now row) ≡ taskRow ⌝ }
+    ensures { λ _. ⌜ now (row .exit) ≡ taskWords k ++ drop taskFields (now (row .entry)) ⌝ }
+{
+    let g = k.stage;
+    let w = k.hand;
+    row[0] = code_of(g);
+    row[1] = k.slot;
+    row[2] = k.block;
+    row[3] = k.number;
+    row[4] = k.cell;
+    row[5] = k.value;
+    row[6] = k.until;
+    row[7] = k.fresh;
+    row[8] = k.target;
+    row[9] = w.cell;
+    row[10] = w.guess;
+    row[11] = w.lo;
+    row[12] = w.hi;
+    row[13] = bit(w.found);
+    row[14] = w.candidate;
+    row[15] = w.version;
+    row[16] = k.steps;
+}
+
+fn task_of(row: &[u32]) -> Task
+    requires { ⌜ length (now row) ≡ taskRow ⌝ }
+    ensures { λ r. ⌜ r ≡ taskRead (now (row .entry)) ⌝ }
+{
+    let w = Hand {
+        cell: row[9],
+        guess: row[10],
+        lo: row[11],
+        hi: row[12],
+        found: row[13] != 0,
+        candidate: row[14],
+        version: row[15],
+    };
+    let g = stage_from(row[0]);
+    Task {
+        stage: g,
+        slot: row[1],
+        block: row[2],
+        number: row[3],
+        cell: row[4],
+        value: row[5],
+        until: row[6],
+        fresh: row[7],
+        target: row[8],
+        hand: w,
+        steps: row[16],
+    }
+}
+
+// The numbers of the handle that a task names.
+fn stands(d: Sizes, k: Task) -> bool
+    ensures { λ r. ⌜ r ≡ standsIn d k ⌝ }
+{
+    if d.h <= k.slot {
+        return false;
+    }
+    if d.b <= k.block {
+        return false;
+    }
+    k.number <= d.n
+}
+
+// The numbers of what it does.
+fn works(d: Sizes, k: Task) -> bool
+    ensures { λ r. ⌜ r ≡ worksIn d k ⌝ }
+{
+    let w = k.hand;
+    if d.n <= k.cell {
+        return false;
+    }
+    if d.n < k.until {
+        return false;
+    }
+    if d.h <= k.fresh {
+        return false;
+    }
+    if d.b <= k.target {
+        return false;
+    }
+    if d.n <= w.cell {
+        return false;
+    }
+    k.steps < 1000000000
+}
+
+fn fits(d: Sizes, k: Task) -> bool
+    ensures { λ r. ⌜ r ≡ taskFits d k ⌝ }
+{
+    if !stands(d, k) {
+        return false;
+    }
+    works(d, k)
+}
+
+fn read_task(row: &[u32], d: Sizes) -> TaskRow
+    requires { ⌜ length (now row) ≡ taskRow ⌝ }
+    ensures { λ r. ⌜ r ≡ taskRowOf d (now (row .entry)) ⌝ }
+{
+    let k = task_of(row);
+    let g = k.stage;
+    if code_of(g) != row[0] {
+        return TaskRow::Bad;
+    }
+    if !fits(d, k) {
+        return TaskRow::Bad;
+    }
+    TaskRow::Row(k)
+}
+
+fn task_start(d: Sizes, t: u32) -> usize
+    requires { ⌜ (d .h ≤ mostHandles) × (t < mostTasks) ⌝ }
+    ensures { λ r. ⌜ r ≡ taskStart d t ⌝ }
+{
+    wide(16 + 4 * d.h + 32 * t)
+}
+
+// The row of task t.
+pub fn load_task(pool: &[u32], d: Sizes, t: u32) -> TaskRow
+    requires { ⌜ Spans d (now pool) × (t < d .t) ⌝ }
+    ensures { λ r. ⌜ r ≡ taskIn (now (pool .entry)) d t ⌝ }
+{
+    let s = task_start(d, t);
+    read_task(&pool[s..s + 32], d)
+}
+
+pub fn store_task(pool: &mut [u32], d: Sizes, t: u32, k: Task)
+    requires { ⌜ Spans d (now pool) × (t < d .t) ⌝ }
+    ensures { λ _. ⌜ now (pool .exit) ≡ putTask (now (pool .entry)) d t k ⌝ }
+{
+    let s = task_start(d, t);
+    write_task(&mut pool[s..s + 32], k);
+}
