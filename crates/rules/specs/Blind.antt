@@ -142,7 +142,7 @@ erase-step-at (Paging r) s t k = erase-got s t k (getStep r (hereOf s k) (k .num
 
 -- ---- every call
 
-erase-opened : (n h t w : ℕ) (lie : Lie) → erase (opened n h t w lie) ≡ opened n h t w (eraseLie lie)
+pub erase-opened : (n h t w : ℕ) (lie : Lie) → erase (opened n h t w lie) ≡ opened n h t w (eraseLie lie)
 unfolding opened
 erase-opened n h t w lie =
     ap₂ (λ (ks : List Task) (bs : List Block). record { sizes = record { n = n; h = h; t = t; b = room n h t w }; slots = replicate h (freed 0); tasks = ks; blocks = bs })

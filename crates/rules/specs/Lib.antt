@@ -1,2 +1,5 @@
+pub mod Rules
 pub mod Erase
 pub mod Blind
+pub mod Logs
+pub mod Kept
