@@ -38,7 +38,7 @@ module _ (s : State) where
   abbrev β : ℕ → Block
   β k = eraseBlock (blockAt s k)
 
-  abbrev Structure : Type 0
+  abbrev pub Structure : Type 0
   Structure = Inv (s .sizes .n) (s .sizes .h) (s .sizes .b) (slotAt s) τ β
 
   abbrev InvOf : (ℕ → Task) → (ℕ → Block) → Type 0
@@ -125,16 +125,19 @@ module _ (s : State) where
           (to-named (ap names e), to-fresh (ap reserves e) (h .0), h .1, to-filler _ (ap fills e) (h .2), to-copied _ k (h .2))
       to-ok (Paging r) e h = (to-named (ap names e), to-reads r k (h .0), h .1, h .2)
 
-  pub rules-inv : Rules s → InvS (erase s)
-  rules-inv h =
+  pub structure : Rules s → Structure
+  structure h =
       let v = h .valid in
-      from-structure (record {
+      record {
         stands = to-stands v;
         oks = λ t. to-ok v t (taskAt s t .stage) refl (h .tasks t);
         apart = λ t u d. record { a-write = λ p q e. d (v .one-writer t u p q e); a-fill = λ p q e. d (v .one-filler t u p q e); a-fresh = λ p q e. d (v .own-slot t u p q e) };
         unique = v .apart;
         owned = v .one-owner;
-      })
+      }
+
+  pub rules-inv : Rules s → InvS (erase s)
+  rules-inv h = from-structure (structure h)
 
   -- ---- from the invariant
 

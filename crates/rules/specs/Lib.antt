@@ -3,3 +3,4 @@ pub mod Erase
 pub mod Blind
 pub mod Logs
 pub mod Kept
+pub mod Facts
