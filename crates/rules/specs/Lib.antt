@@ -4,3 +4,5 @@ pub mod Blind
 pub mod Logs
 pub mod Kept
 pub mod Facts
+pub mod Paced
+pub mod Paces
