@@ -87,11 +87,12 @@ erase-got s t k (Going r w) = (erase-with-task s t _, erase-with-task s t _, era
 erase-got s t k (Settled w) =
     (erase-with-task s t _, both Blind (eqb (w .cell + 1) (k .until)) refl (erase-with-task s t _) (erase-with-task s t _), erase-with-task s t _)
 
--- it ends, with a handle or refused 10
+-- it ends with a handle
 erase-finished : (s s' : State) (t : ℕ) (k : Task) (b n : ℕ) → erase s ≡ s' → Blind (finished s t k b n) (finished s' t (eraseTask k) b n)
 unfolding finished withSlot
 erase-finished s s' t k b n e = erase-with-task (withSlot s (k .fresh) _) t idle ∙ ap (λ (z : State). finished z t (eraseTask k) b n .0) e
 
+-- it takes a block, or is refused 10
 erase-taken : (s : State) (t : ℕ) (k : Task) (g : Stage) → Blind (taken s t k g) (taken (erase s) t (eraseTask k) g)
 unfolding taken noRoom withSlot aimed moved withVersion
 erase-taken s t k g =
@@ -101,8 +102,8 @@ erase-taken s t k g =
     ∙ ap (λ (b : ℕ). withTask (withBlock (erase s) b (withVersion (blockAt (erase s) b) 0)) t (aimed (moved (eraseTask k) g (handOf 0)) b)) (sym (erase-free s)))
 
 -- the get in hand, on the erased block
-reads : (r : Reading) (s : State) (k : Task) → eraseProgress (getStep r (hereOf s k) (k .number) (k .hand)) ≡ getStep r (hereOf (erase s) k) (k .number) (eraseHand (k .hand))
-reads r s k = erase-get-step r (hereOf s k) (k .number) (k .hand) ∙ ap (λ (b : Block). getStep r b (k .number) (eraseHand (k .hand))) (sym (erase-block s (k .block)))
+erase-reads : (r : Reading) (s : State) (k : Task) → eraseProgress (getStep r (hereOf s k) (k .number) (k .hand)) ≡ getStep r (hereOf (erase s) k) (k .number) (eraseHand (k .hand))
+erase-reads r s k = erase-get-step r (hereOf s k) (k .number) (k .hand) ∙ ap (λ (b : Block). getStep r b (k .number) (eraseHand (k .hand))) (sym (erase-block s (k .block)))
 
 erase-appended : (b : Block) (i n v : ℕ) → eraseBlock (appended b i n v) ≡ appended (eraseBlock b) i n 0
 erase-appended b i n v =
@@ -119,7 +120,7 @@ erase-step-at FillNew s t k =
     both Blind (eqb (k .hand .cell + 1) (s .sizes .n)) refl
     (erase-finished _ _ t k (k .target) 0 (erase-filled s k (k .hand .cell) (k .value)))
     (erase-then _ _ t _ (erase-filled s k (k .hand .cell) (k .value)))
-erase-step-at (Getting r) s t k = erase-got s t k (getStep r (hereOf s k) (k .number) (k .hand)) .0 ∙ ap (λ (q : Progress). gotGet q (erase s) t (eraseTask k) .0) (reads r s k)
+erase-step-at (Getting r) s t k = erase-got s t k (getStep r (hereOf s k) (k .number) (k .hand)) .0 ∙ ap (λ (q : Progress). gotGet q (erase s) t (eraseTask k) .0) (erase-reads r s k)
 erase-step-at Exchange s t k =
     both Blind (eqb (hereOf s k .version) (k .number)) (ap (λ (b : Block). eqb (b .version) (k .number)) (erase-block s (k .block)))
     (erase-either _ _ t (ltb (k .number) (s .sizes .n)) (moved k Read (k .hand)) (moved k TakeCopy (handOf 0))
@@ -133,12 +134,12 @@ erase-step-at Write s t k =
     erase-finished _ _ t k (k .block) (k .number + 1)
     (erase-change s (k .block) (λ (b : Block). withCell b (k .cell) (k .value)) (λ (b : Block). withCell b (k .cell) 0) (λ b. erase-with-cell b (k .cell) (k .value)))
 erase-step-at TakeCopy s t k = erase-taken s t k (Copying Guess)
-erase-step-at (Copying r) s t k = erase-got s t k (getStep r (hereOf s k) (k .number) (k .hand)) .2 ∙ ap (λ (q : Progress). gotCopy q (erase s) t (eraseTask k) .0) (reads r s k)
+erase-step-at (Copying r) s t k = erase-got s t k (getStep r (hereOf s k) (k .number) (k .hand)) .2 ∙ ap (λ (q : Progress). gotCopy q (erase s) t (eraseTask k) .0) (erase-reads r s k)
 erase-step-at FillCopy s t k =
     erase-either _ _ t (eqb (k .hand .cell + 1) (s .sizes .n)) (moved k Put (handOf (k .cell))) (moved k (Copying Guess) (handOf (k .hand .cell + 1)))
     (erase-filled s k (k .hand .cell) (answer (k .hand)) ∙ ap (λ (v : ℕ). filled (erase s) (eraseTask k) (k .hand .cell) v) (sym (erase-answer (k .hand))))
 erase-step-at Put s t k = erase-finished _ _ t k (k .target) 0 (erase-filled s k (k .cell) (k .value))
-erase-step-at (Paging r) s t k = erase-got s t k (getStep r (hereOf s k) (k .number) (k .hand)) .1 ∙ ap (λ (q : Progress). gotPage q (erase s) t (eraseTask k) .0) (reads r s k)
+erase-step-at (Paging r) s t k = erase-got s t k (getStep r (hereOf s k) (k .number) (k .hand)) .1 ∙ ap (λ (q : Progress). gotPage q (erase s) t (eraseTask k) .0) (erase-reads r s k)
 
 -- ---- every call
 

@@ -124,7 +124,7 @@ unfolding withTask
 erase-with-task s t k =
     ap (λ (l : List Task). record { sizes = s .sizes; slots = s .slots; tasks = l; blocks = map eraseBlock (s .blocks) }) (map-set eraseTask (s .tasks) t k)
 
-pub erase-with-block : (s : State) (k : ℕ) (b : Block) → erase (withBlock s k b) ≡ withBlock (erase s) k (eraseBlock b)
+erase-with-block : (s : State) (k : ℕ) (b : Block) → erase (withBlock s k b) ≡ withBlock (erase s) k (eraseBlock b)
 unfolding withBlock
 erase-with-block s k b =
     ap (λ (l : List Block). record { sizes = s .sizes; slots = s .slots; tasks = map eraseTask (s .tasks); blocks = l }) (map-set eraseBlock (s .blocks) k b)

@@ -5,4 +5,5 @@ pub mod Logs
 pub mod Kept
 pub mod Facts
 pub mod Paced
-pub mod Paces
+pub mod Steps
+pub mod Calls
