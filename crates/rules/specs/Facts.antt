@@ -17,7 +17,7 @@ use Rattle.rulebook.specs.declared.Stage.{Stage}
 use Rattle.rulebook.specs.declared.Stage.the-variants.{Append, Copying, Getting, Paging}
 use Rattle.rulebook.specs.declared.Status.the-variants.{Live, Reserved}
 use Rattle.rulebook.specs.declared.Task.{Task}
-use Rattle.rulebook.specs.Sizes.{lastSerial, mostWords, publicNumber}
+use Rattle.rulebook.specs.Sizes.{lastSerial, publicNumber}
 use Rattle.rulebook.specs.State.{Block, State, blockAt, busy, fills, freed, idle, logAt, names, reserves, slotAt, taskAt, writes}
 use Rattle.rulebook.specs.Steps.{hereOf, middle, probed}
 use Rattle.rulebook.specs.Tests.{by-test, if-case}
@@ -72,18 +72,16 @@ busy-below s sh t b =
     (λ e. let out = List·getD-eq-default (s .tasks) idle (omega (arith, ltb-false t (s .sizes .t) e, sh .tasks-len)) in
     absurd (false≢true (sym (ap (λ (x : Task). busy (x .stage)) out) ∙ b)))
 
+-- where a live handle of number n stands
+pub record Stood (s : State) (b n : ℕ) : Type 0 where
+  pub in-b : b < s .sizes .b
+  pub at-most-n : n ≤ s .sizes .n
+  pub at-most-v : n ≤ blockAt s b .version
+  pub v-at-most : blockAt s b .version ≤ s .sizes .n + 1
+  pub few : entries (blockAt s b .logs) ≤ s .sizes .n
+
 module _ (s : State) (h : Rules s) where
-  -- ---- slots
-
-  -- where a live handle stands
-  pub record Stood (b n : ℕ) : Type 0 where
-    pub in-b : b < s .sizes .b
-    pub at-most-n : n ≤ s .sizes .n
-    pub at-most-v : n ≤ blockAt s b .version
-    pub v-at-most : blockAt s b .version ≤ s .sizes .n + 1
-    pub few : entries (blockAt s b .logs) ≤ s .sizes .n
-
-  pub live-stood : (j : ℕ) → slotAt s j .status ≡ Live → Stood (slotAt s j .block) (slotAt s j .number)
+  pub live-stood : (j : ℕ) → slotAt s j .status ≡ Live → Stood s (slotAt s j .block) (slotAt s j .number)
   live-stood j l =
       let v = h .valid in
       record { in-b = v .below-b j l; at-most-n = v .at-most-n j l; at-most-v = v .at-most-v j l; v-at-most = v .v-at-most j l; few = omega (arith, v .few-entries j l) }
@@ -97,10 +95,10 @@ module _ (s : State) (h : Rules s) where
 
     -- ---- the handle that it names
 
-    pub named-stood : names (k .stage) ≡ true → Stood (k .block) (k .number)
+    pub named-stood : names (k .stage) ≡ true → Stood s (k .block) (k .number)
     named-stood n =
         let r = h .valid .named-live t n in
-        subst₂ Stood (r .1) (r .2) (live-stood (k .slot) (r .0))
+        subst₂ (Stood s) (r .1) (r .2) (live-stood (k .slot) (r .0))
 
     pub short-log : names (k .stage) ≡ true → (i : ℕ) → length (logAt (hereOf s k) i) ≤ s .sizes .n
     short-log n i = omega (arith, log-entries (hereOf s k) i, named-stood n .few)
@@ -111,7 +109,7 @@ module _ (s : State) (h : Rules s) where
     reserved-slot n = let r = ok-fresh _ _ _ _ _ (eraseTask k) (k .stage) n (structure s h .oks t) in (r .inH, r .is-reserved, r .spare)
 
     -- the public number that it is to get is a word
-    pub public-fits : Shape s → reserves (k .stage) ≡ true → publicNumber (k .fresh) (slotAt s (k .fresh) .serial + 1) ≤ mostWords
+    pub public-fits : Shape s → reserves (k .stage) ≡ true → publicNumber (k .fresh) (slotAt s (k .fresh) .serial + 1) < 4294967296
     unfolding lastSerial
     public-fits sh n = let r = reserved-slot n in omega (arith, r .0, r .2, sh .few-slots)
 
