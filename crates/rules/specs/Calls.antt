@@ -10,7 +10,6 @@ use Rattle.rulebook.specs.declared.Reading.the-variants.{Guess}
 use Rattle.rulebook.specs.declared.Stage.{Stage}
 use Rattle.rulebook.specs.declared.Stage.the-variants.{Exchange, Getting, Paging}
 use Rattle.rulebook.specs.declared.Status.the-variants.{Free, Reserved}
-use Rattle.rulebook.specs.History.{fresh, one}
 use Rattle.rulebook.specs.Lists.{replicate-get}
 use Rattle.rulebook.specs.Machine.{Call, Get, LookCell, LookEntry, LookLog, LookTask, LookVersion, New, Open, Page, Release, Report, Set, Step, call, release}
 use Rattle.rulebook.specs.Sizes.{mostCells, mostHandles, mostTasks, mostWords, opens, room, slotOf, within}
@@ -40,9 +39,9 @@ module _ (s : State) (h : Rules s) (p : Paced s) (t : ℕ) where
       paced-slot s (freeSlot s) _ (slot-empty (slotAt s (freeSlot s) .serial) Reserved (p .slots (freeSlot s) .not-above) refl) p
 
   -- a task on the handle a, of which no step is taken
-  range-begun : (a : ℕ) (g : Stage) (i v until fresh : ℕ) → liveHandle s a ≡ true → i < N → until ≤ N → fresh < s .sizes .h → Pace N g (begun s a g i v until fresh) → TaskRange (s .sizes) (begun s a g i v until fresh)
+  range-begun : (a : ℕ) (g : Stage) (i v until j : ℕ) → liveHandle s a ≡ true → i < N → until ≤ N → j < s .sizes .h → Pace N g (begun s a g i v until j) → TaskRange (s .sizes) (begun s a g i v until j)
   unfolding begun
-  range-begun a g i v until fresh l inN inUntil inH pc =
+  range-begun a g i v until j l inN inUntil inH pc =
       let x = live-handle s a l in
       let q = live-stood s h (slotOf a) (x .lives) in
       record { slot-below = x .inH; block-below = q .in-b; number-within = q .at-most-n; cell-below = inN; until-within = inUntil; fresh-below = inH; target-below = idle-range s p .target-below; hand-below = inN; pace = pc }
@@ -81,7 +80,7 @@ module _ (s : State) (h : Rules s) (p : Paced s) (t : ℕ) where
       let q = or-neither _ _ e in
       let some : m ≡ 0 → ⊥ = eqb-false m 0 (q .0) in
       let fits = ltb-false N (from + m) (q .1) in
-      let one : (from - from + 1) * (3 + digits N) ≡ 1 * (3 + digits N) = ap (λ (z : ℕ). z * (3 + digits N)) (omega arith) in
+      let single : (from - from + 1) * (3 + digits N) ≡ 1 * (3 + digits N) = ap (λ (z : ℕ). z * (3 + digits N)) (omega arith) in
       paced-task s t _ (range-begun a (Paging Guess) from 0 (from + m) 0 (not-false _ l) (omega arith) fits (idle-range s p .fresh-below) (omega arith, omega arith)) p)))
 
 -- ---- every call

@@ -27,7 +27,7 @@ use Rattle.rulebook.specs.Steps.{aimed, counted, exchanged, filled, finished, g
 use Rattle.rulebook.specs.Tests.{if-case}
 use Rattle.theorems.specs.Prices.Digits.{Less, get-less, leftOf}
 use Rattle.theorems.specs.Reading.Get.{probed-cell}
-use Rattle.theorems.specs.Terms.{digits, more}
+use Rattle.theorems.specs.Terms.{digits}
 use Rattle.rules.specs.Facts.{Doing, a-copy, a-get, a-page, doing-gets, doing-names, reserved-slot, rule-at, short-log, unsettled}
 use Rattle.rules.specs.Paced.{Pace, Paced, SlotRange, TaskRange, copySteps}
 use Rattle.rules.specs.Rules.{Rules}
@@ -168,9 +168,9 @@ module _ (s : State) (h : Rules s) (p : Paced s) (t : ℕ) where
       if-case Fine (eqb (w .cell + 1) (k .until)) (λ _. paced-idle s t p)
       (λ f. let m = my-pace (Paging r) e in
       let u = rule-at s h t (Paging r) e in
-      let more : pageSteps (w .cell + 1) ≡ pageSteps (w .cell) + (3 + digits N) = ap (λ (z : ℕ). z * (3 + digits N)) (omega (arith, l .0, m .0)) ∙ next-mul (w .cell - k .cell + 1) (3 + digits N) in
+      let grown : pageSteps (w .cell + 1) ≡ pageSteps (w .cell) + (3 + digits N) = ap (λ (z : ℕ). z * (3 + digits N)) (omega (arith, l .0, m .0)) ∙ next-mul (w .cell - k .cell + 1) (3 + digits N) in
       paced-task s t _ (range-moved (Paging Guess) (handOf (w .cell + 1)) (omega (arith, l .0, u .1, u .2, eqb-false (w .cell + 1) (k .until) f))
-      (omega (arith, l .0, m .0), omega (arith, m .1, l .1, more, ap pageSteps (l .0)))) p)
+      (omega (arith, l .0, m .0), omega (arith, m .1, l .1, grown, ap pageSteps (l .0)))) p)
 
   -- ---- taking and filling
 
