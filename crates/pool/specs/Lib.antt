@@ -8,3 +8,8 @@ pub mod Sizing
 pub mod Ways
 pub mod Lends
 pub mod Does
+pub mod Keeps
+pub mod Ranges
+pub mod View
+pub mod Acts
+pub mod Opened

@@ -1,0 +1,241 @@
+-- What doing an act leaves: the machine's state that the act leads to; and all that it does not name, as it was.
+-- Rests on View, Does and the block's laws.
+use Prim.Native.Nat.{ℕ, _+_, _≤_, _<_}
+use mathlib.Core.Path.{_≡_, refl, sym, ap, _∙_, subst}
+use mathlib.Core.Bool.{Bool, true, false, _||_, true≢false, false≢true}
+use mathlib.Core.List.{List, [], _∷_, _++_}
+use lib.ListN.{length, set, length-set}
+use lib.Dec.{leb, ltb, eqb}
+use borrow.Author.Tests.{ltb-true, leb-true, eqb-true}
+use Rattle.rulebook.specs.Sizes.{blockWords}
+use Rattle.rulebook.specs.Tests.{by-test}
+use Rattle.rulebook.specs.State.{State, Block, blockAt, logAt, withBlock, withVersion, withCell, withLog}
+use Rattle.rulebook.specs.declared.Sizes.{Sizes}
+use Rattle.rulebook.specs.declared.Entry.{Entry}
+use Rattle.rulebook.specs.declared.Reply.{Reply}
+use Rattle.rulebook.specs.declared.Reply.the-variants as reply
+use Rattle.block.specs.Layout.{versionOf, isBlock, hasCell, Sized}
+use Rattle.block.specs.Words.{exchangeIn, writeIn, takeIn, fillIn, roomIn, stored, appendAt, appendIn}
+use Rattle.block.specs.Sound.{blockOf, entriesIn, Laid}
+use Rattle.block.specs.Ways.{cell-block}
+use Rattle.block.specs.Reads.{version-at}
+use Rattle.block.specs.Writes.{exchange-first, write-done, take-done, fill-done}
+use Rattle.block.specs.Appends.{append-done}
+use Rattle.block.specs.Plans.{room-planned}
+use Rattle.block.specs.declared.change.Room.{Room}
+use Rattle.block.specs.declared.change.Room.the-variants as room
+use Rattle.acts.specs.Plans.{answers}
+use Rattle.acts.specs.Acted.{touched, seated, turned, acted}
+use Rattle.acts.specs.declared.Touch.{Touch}
+use Rattle.acts.specs.declared.Touch.the-variants as touch
+use Rattle.acts.specs.declared.SlotChange.{SlotChange}
+use Rattle.acts.specs.declared.SlotChange.the-variants as slot
+use Rattle.acts.specs.declared.TaskChange.{TaskChange}
+use Rattle.acts.specs.declared.TaskChange.the-variants as task
+use Rattle.acts.specs.declared.Act.{Act}
+use Rattle.pool.specs.Places.{blockPart, Spans}
+use Rattle.pool.specs.Pool.{viewOf, putBlock, raised, putDone, touchedIn, seatedIn, turnedIn, actedIn, appliedIn, touchNear, slotNear, taskNear, InReach}
+use Rattle.pool.specs.Keeps.{none, only, Keeps, keeps-spans, keeps-all, keeps-both, slots-alone, tasks-alone, blocks-alone, slot-keeps, task-keeps, block-keeps, block-length, block-sized}
+use Rattle.pool.specs.View.{view-block-at, view-slot, view-task, view-block}
+
+-- ---- a touch leaves a block as long as it was
+
+module _ (n : ℕ) (w : List ℕ) where
+  exchange-length : (l : ℕ) → length (exchangeIn n w l .0) ≡ length w
+  unfolding exchangeIn
+  exchange-length l =
+      by-test (isBlock n w)
+      (λ a. by-test (eqb (versionOf w) l) (λ b. by-test (leb l n) (λ c. rw (a, b, c) (length-set w 0 (l + 1))) (λ c. rw (a, b, c))) (λ b. rw (a, b)))
+      (λ a. rw a)
+
+  append-at-length : (r : Room) (i v o : ℕ) → length (appendAt r n w i v o .0) ≡ length w
+  unfolding appendAt stored
+  append-at-length (room.At s) i v o = simp length-set
+  append-at-length room.Full i v o = refl
+
+  append-length : (i v o : ℕ) → length (appendIn n w i v o .0) ≡ length w
+  unfolding appendIn
+  append-length i v o = append-at-length (roomIn n w i) i v o
+
+  write-length : (i v : ℕ) → length (writeIn n w i v .0) ≡ length w
+  unfolding writeIn
+  write-length i v = by-test (hasCell n w i) (λ a. simp (a, length-set)) (λ a. simp a)
+
+  take-length : length (takeIn n w .0) ≡ length w
+  unfolding takeIn
+  take-length = by-test (isBlock n w) (λ a. simp (a, length-set)) (λ a. simp a)
+
+  fill-length : (i v : ℕ) → length (fillIn n w i v .0) ≡ length w
+  unfolding fillIn
+  fill-length i v = by-test (hasCell n w i) (λ a. simp (a, length-set)) (λ a. simp a)
+
+-- ---- what an act names
+
+unfoldable pub blockNamed : Touch → ℕ → Bool
+blockNamed touch.Nothing = none
+blockNamed (touch.Exchange k l) = only k
+blockNamed (touch.Append k i e) = only k
+blockNamed (touch.Write k i v) = only k
+blockNamed (touch.Take k) = only k
+blockNamed (touch.Fill k i v) = only k
+
+unfoldable pub slotNamed : SlotChange → ℕ → Bool
+slotNamed slot.Same = none
+slotNamed (slot.To j x) = only j
+
+unfoldable pub taskNamed : TaskChange → ℕ → Bool
+taskNamed task.Same = none
+taskNamed (task.To t k) = only t
+
+module _ {d : Sizes} {p : List ℕ} (g : Spans d p) where
+  pub touched-keeps : (x : Touch) → touchNear d x ≡ true → Keeps d p (touchedIn p d x .0) none none (blockNamed x)
+  unfolding touchedIn putDone touchNear blockNamed
+  touched-keeps touch.Nothing h = keeps-all d p none none none
+  touched-keeps (touch.Exchange k l) h =
+      let a = ltb-true k (d .b) h in block-keeps g k a _ (exchange-length (d .n) (blockPart p d k) l ∙ block-length g k a)
+  touched-keeps (touch.Append k i e) h =
+      let a = ltb-true k (d .b) h in block-keeps g k a _ (append-length (d .n) (blockPart p d k) i (e .version) (e .old) ∙ block-length g k a)
+  touched-keeps (touch.Write k i v) h =
+      let a = ltb-true k (d .b) h in block-keeps g k a _ (write-length (d .n) (blockPart p d k) i v ∙ block-length g k a)
+  touched-keeps (touch.Take k) h =
+      let a = ltb-true k (d .b) h in block-keeps g k a _ (take-length (d .n) (blockPart p d k) ∙ block-length g k a)
+  touched-keeps (touch.Fill k i v) h =
+      let a = ltb-true k (d .b) h in block-keeps g k a _ (fill-length (d .n) (blockPart p d k) i v ∙ block-length g k a)
+
+  pub seated-keeps : (c : SlotChange) → slotNear d c ≡ true → Keeps d p (seatedIn p d c) (slotNamed c) none none
+  unfolding seatedIn slotNear slotNamed
+  seated-keeps slot.Same h = keeps-all d p none none none
+  seated-keeps (slot.To j x) h = slot-keeps g j (ltb-true j (d .h) h) x
+
+  pub turned-keeps : (c : TaskChange) → taskNear d c ≡ true → Keeps d p (turnedIn p d c) none (taskNamed c) none
+  unfolding turnedIn taskNear taskNamed
+  turned-keeps task.Same h = keeps-all d p none none none
+  turned-keeps (task.To t k) h = task-keeps g t (ltb-true t (d .t) h) k
+
+  pub view-seated : (c : SlotChange) → slotNear d c ≡ true → viewOf d (seatedIn p d c) ≡ seated (viewOf d p) c
+  unfolding seatedIn slotNear seated
+  view-seated slot.Same h = refl
+  view-seated (slot.To j x) h = view-slot d p g j (ltb-true j (d .h) h) x
+
+  pub view-turned : (c : TaskChange) → taskNear d c ≡ true → viewOf d (turnedIn p d c) ≡ turned (viewOf d p) c
+  unfolding turnedIn taskNear turned
+  view-turned task.Same h = refl
+  view-turned (task.To t k) h = view-task d p g t (ltb-true t (d .t) h) k
+
+-- ---- a touch that was done has done the machine's
+
+module _ (n : ℕ) (w : List ℕ) where
+  exchange-raised : (l : ℕ) → raised (exchangeIn n w l .1) ≡ true → (blockOf n w .version ≡ l) × (l ≤ n)
+  unfolding exchangeIn
+  exchange-raised l h =
+      by-test (isBlock n w)
+      (λ a. by-test (eqb (versionOf w) l)
+      (λ b. by-test (leb l n)
+      (λ c. (version-at n w ∙ eqb-true (versionOf w) l b, leb-true l n c))
+      (λ c. absurd (false≢true (rw (a, b, c) at h))))
+      (λ b. absurd (false≢true (rw (a, b) at h))))
+      (λ a. absurd (false≢true (rw a at h)))
+
+  append-at-cell : (r : Room) (i v o : ℕ) → roomIn n w i ≡ r → appendAt r n w i v o .1 ≡ true → i < n
+  unfolding appendAt
+  append-at-cell (room.At s) i v o e h = room-planned n w i s e .1 .cell
+  append-at-cell room.Full i v o e h = absurd (false≢true h)
+
+  append-cell : (i v o : ℕ) → appendIn n w i v o .1 ≡ true → i < n
+  unfolding appendIn
+  append-cell i v o h = append-at-cell (roomIn n w i) i v o refl h
+
+  write-cell : (i v : ℕ) → writeIn n w i v .1 ≡ true → i < n
+  unfolding writeIn
+  write-cell i v h = by-test (hasCell n w i) (λ a. cell-block n w i a .1) (λ a. absurd (false≢true (rw a at h)))
+
+  fill-cell : (i v : ℕ) → fillIn n w i v .1 ≡ true → i < n
+  unfolding fillIn
+  fill-cell i v h = by-test (hasCell n w i) (λ a. cell-block n w i a .1) (λ a. absurd (false≢true (rw a at h)))
+
+-- where an entry is appended, the block's logs are sound and have fewer than N entries
+pub record Appendable (d : Sizes) (p : List ℕ) (x : Touch) : Type 0 where
+  pub laid : (k i : ℕ) (e : Entry) → x ≡ touch.Append k i e → Laid (d .n) (blockPart p d k)
+  pub less : (k i : ℕ) (e : Entry) → x ≡ touch.Append k i e → entriesIn (d .n) (blockOf (d .n) (blockPart p d k)) < d .n
+
+module _ {d : Sizes} {p : List ℕ} (g : Spans d p) where
+  -- block k has become w, which shows what `change` makes of it
+  view-change : (k : ℕ) (h : k < d .b) (w : List ℕ) (change : Block → Block) → length w ≡ length (blockPart p d k)
+      → blockOf (d .n) w ≡ change (blockOf (d .n) (blockPart p d k)) → viewOf d (putBlock p d k w) ≡ withBlock (viewOf d p) k (change (blockAt (viewOf d p) k))
+  view-change k h w change l e =
+      view-block d p g k h w (l ∙ block-length g k h)
+      ∙ ap (withBlock (viewOf d p) k) (e ∙ ap change (sym (view-block-at d p k h)))
+
+  pub view-touched : (x : Touch) → touchNear d x ≡ true → touchedIn p d x .1 ≡ true → Appendable d p x → viewOf d (touchedIn p d x .0) ≡ touched (viewOf d p) x
+  unfolding touchedIn putDone touchNear touched
+  view-touched touch.Nothing h y a = refl
+  view-touched (touch.Exchange k l) h y a =
+      let b = ltb-true k (d .b) h in
+      let r = exchange-raised (d .n) (blockPart p d k) l y in
+      view-change k b _ (λ (z : Block). withVersion z (l + 1)) (exchange-length (d .n) (blockPart p d k) l) (exchange-first (block-sized g k b) l (r .0) (r .1) .1 .block)
+  view-touched (touch.Append k i e) h y a =
+      let b = ltb-true k (d .b) h in
+      view-change k b _ (λ (z : Block). withLog z i (logAt z i ++ (e ∷ []))) (append-length (d .n) (blockPart p d k) i (e .version) (e .old))
+      (append-done (a .laid k i e refl) i (e .version) (e .old) (append-cell (d .n) (blockPart p d k) i (e .version) (e .old) y) (a .less k i e refl) .1 .block)
+  view-touched (touch.Write k i v) h y a =
+      let b = ltb-true k (d .b) h in
+      view-change k b _ (λ (z : Block). withCell z i v) (write-length (d .n) (blockPart p d k) i v)
+      (write-done (block-sized g k b) i v (write-cell (d .n) (blockPart p d k) i v y) .1 .block)
+  view-touched (touch.Take k) h y a =
+      let b = ltb-true k (d .b) h in
+      view-change k b _ (λ (z : Block). withVersion z 0) (take-length (d .n) (blockPart p d k)) (take-done (block-sized g k b) .1)
+  view-touched (touch.Fill k i v) h y a =
+      let b = ltb-true k (d .b) h in
+      view-change k b _ (λ (z : Block). withLog (withCell z i v) i []) (fill-length (d .n) (blockPart p d k) i v)
+      (fill-done (block-sized g k b) i v (fill-cell (d .n) (blockPart p d k) i v y) .2)
+
+-- ---- the whole act
+
+module _ (p : List ℕ) (d : Sizes) where
+  pub applied-answers : (r : Reply) → appliedIn p d (answers r) ≡ (p, r)
+  unfolding appliedIn actedIn touchedIn seatedIn turnedIn
+  applied-answers r = refl
+
+  -- refused 2: no word changes
+  pub applied-not : (a : Act) → touchedIn p d (a .touch) .1 ≡ false → appliedIn p d a ≡ (p, reply.Refused 2)
+  unfolding appliedIn actedIn
+  applied-not a e = ap (λ (x : Bool). actedIn x (touchedIn p d (a .touch) .0) p d a) e
+
+  pub applied-done : (a : Act) → touchedIn p d (a .touch) .1 ≡ true
+      → appliedIn p d a ≡ (turnedIn (seatedIn (touchedIn p d (a .touch) .0) d (a .slot)) d (a .task), a .reply)
+  unfolding appliedIn actedIn
+  applied-done a e = ap (λ (x : Bool). actedIn x (touchedIn p d (a .touch) .0) p d a) e
+
+module _ {d : Sizes} {p : List ℕ} (g : Spans d p) (a : Act) (r : InReach d a) where
+  abbrev after : List ℕ
+  after = touchedIn p d (a .touch) .0
+
+  spans-touched : Spans d after
+  spans-touched = keeps-spans (touched-keeps g (a .touch) (r .touch)) g
+
+  spans-seated : Spans d (seatedIn after d (a .slot))
+  spans-seated = keeps-spans (seated-keeps spans-touched (a .slot) (r .slot)) spans-touched
+
+  -- what was done is the machine's act
+  pub applied-acted : touchedIn p d (a .touch) .1 ≡ true → Appendable d p (a .touch)
+      → (viewOf d (appliedIn p d a .0) ≡ acted (viewOf d p) a .0) × (appliedIn p d a .1 ≡ acted (viewOf d p) a .1)
+  unfolding acted
+  applied-acted y s =
+      rw (applied-done p d a y) (
+        view-turned spans-seated (a .task) (r .task)
+            ∙ ap (λ (z : State). turned z (a .task)) (view-seated spans-touched (a .slot) (r .slot)
+            ∙ ap (λ (z : State). seated z (a .slot)) (view-touched g (a .touch) (r .touch) y s)),
+        refl,
+      )
+
+  -- done or refused, what the act does not name is as it was
+  pub applied-keeps : Keeps d p (appliedIn p d a .0) (slotNamed (a .slot)) (taskNamed (a .task)) (blockNamed (a .touch))
+  applied-keeps =
+      let f = slotNamed (a .slot) in
+      let h = taskNamed (a .task) in
+      let b = blockNamed (a .touch) in
+      by-test (touchedIn p d (a .touch) .1)
+      (λ y.
+      rw (applied-done p d a y) (keeps-both (blocks-alone f h b (touched-keeps g (a .touch) (r .touch)))
+      (keeps-both (slots-alone f h b (seated-keeps spans-touched (a .slot) (r .slot))) (tasks-alone f h b (turned-keeps spans-seated (a .task) (r .task))))))
+      (λ y. rw (applied-not p d a y) (keeps-all d p f h b))
