@@ -1,20 +1,19 @@
 -- What doing an act leaves: the machine's state that the act leads to; and all that it does not name, as it was.
 -- Rests on View, Does and the block's laws.
 use Prim.Native.Nat.{ℕ, _+_, _≤_, _<_}
-use mathlib.Core.Path.{_≡_, refl, sym, ap, _∙_, subst}
-use mathlib.Core.Bool.{Bool, true, false, _||_, true≢false, false≢true}
+use mathlib.Core.Path.{_≡_, refl, sym, ap, _∙_}
+use mathlib.Core.Bool.{Bool, true, false, false≢true}
 use mathlib.Core.List.{List, [], _∷_, _++_}
-use lib.ListN.{length, set, length-set}
-use lib.Dec.{leb, ltb, eqb}
+use lib.ListN.{length, length-set}
+use lib.Dec.{leb, eqb}
 use borrow.Author.Tests.{ltb-true, leb-true, eqb-true}
-use Rattle.rulebook.specs.Sizes.{blockWords}
 use Rattle.rulebook.specs.Tests.{by-test}
 use Rattle.rulebook.specs.State.{State, Block, blockAt, logAt, withBlock, withVersion, withCell, withLog}
 use Rattle.rulebook.specs.declared.Sizes.{Sizes}
 use Rattle.rulebook.specs.declared.Entry.{Entry}
 use Rattle.rulebook.specs.declared.Reply.{Reply}
 use Rattle.rulebook.specs.declared.Reply.the-variants as reply
-use Rattle.block.specs.Layout.{versionOf, isBlock, hasCell, Sized}
+use Rattle.block.specs.Layout.{versionOf, isBlock, hasCell}
 use Rattle.block.specs.Words.{exchangeIn, writeIn, takeIn, fillIn, roomIn, stored, appendAt, appendIn}
 use Rattle.block.specs.Sound.{blockOf, entriesIn, Laid}
 use Rattle.block.specs.Ways.{cell-block}

@@ -5,7 +5,7 @@ use native.Mathlib.Numerals.{add-one}
 use native.Mathlib.Omega.{arith}
 use mathlib.Core.Path.{_≡_, refl, sym, ap, ap₂, _∙_}
 use mathlib.Core.Bool.{Bool, true, false, not, true≢false}
-use mathlib.Core.List.{List, [], _∷_, _++_, append-nil}
+use mathlib.Core.List.{List, _++_, append-nil}
 use lib.ListN.{length, getD, set, drop, replicate, length-set, length-replicate, replicate-append-replicate}
 use lib.Seq.{drop-cons, set-at, append-snoc, drop-length}
 use lib.Dec.{leb, ltb, eqb}
@@ -14,7 +14,6 @@ use Rattle.rulebook.specs.declared.Sizes.{Sizes}
 use Rattle.rulebook.specs.declared.Entry.{Entry}
 use Rattle.rulebook.specs.declared.Slot.{Slot}
 use Rattle.rulebook.specs.declared.Task.{Task}
-use Rattle.rulebook.specs.declared.Reply.{Reply}
 use Rattle.rulebook.specs.declared.Reply.the-variants as reply
 use Rattle.rulebook.specs.Tests.{by-test}
 use Rattle.block.specs.Layout.{versionOf, isBlock, hasCell}

@@ -1,7 +1,7 @@
 -- What writing a row or a block leaves as it was, and what it puts there.
 -- Rests on Parts, Places, Sizing and Pool.
 use Prim.Native.Nat.{ℕ, _+_, _*_, _≤_, _<_}
-use mathlib.Core.Path.{_≡_, refl, sym, ap, _∙_, subst}
+use mathlib.Core.Path.{_≡_, refl, _∙_}
 use mathlib.Core.Logic.{_⊎_, inl, inr, ⊎-elim}
 use mathlib.Core.Bool.{Bool, false}
 use mathlib.Core.List.{List, _++_}
@@ -15,7 +15,7 @@ use Rattle.rulebook.specs.declared.Sizes.{Sizes}
 use Rattle.rulebook.specs.declared.Slot.{Slot}
 use Rattle.rulebook.specs.declared.Task.{Task}
 use Rattle.block.specs.Layout.{Sized}
-use Rattle.pool.specs.Parts.{part, splice, rowPart, putRow, Fitting, length-part, splice-length, splice-before, splice-after, splice-part, part-before, part-after}
+use Rattle.pool.specs.Parts.{rowPart, putRow, Fitting, length-part, splice-length, splice-before, splice-after, splice-part, part-before, part-after}
 use Rattle.pool.specs.Rows.{slotWords, taskWords, taskFields}
 use Rattle.pool.specs.Places.{taskBase, blockBase, slotPart, taskPart, blockPart, Spans}
 use Rattle.pool.specs.Header.{headerOf}

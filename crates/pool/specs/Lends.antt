@@ -1,17 +1,15 @@
 -- What the functions that lend a row or a block on owe: rules for their proofs.
 -- Rests on Places and Pool.
 use Prim.Native.Nat.{ℕ, _+_, _*_, _^_, _≤_, _<_}
-use mathlib.Core.Path.{_≡_, sym, ap, _∙_}
-use mathlib.Core.Bool.{Bool, true}
+use mathlib.Core.Path.{_≡_, ap, _∙_}
+use mathlib.Core.Bool.{Bool}
 use mathlib.Core.List.{List, _++_}
 use native.Mathlib.Nat.{mul-le-mul, mul-le-mul-left, mul-suc}
 use native.Mathlib.Omega.{arith}
 use lib.ListN.{length, drop}
-use lib.Dec.{ltb}
-use borrow.Author.Tests.{ltb-true}
 use mir.Val.{Fits}
 use mir.Syntax.{w64}
-use Rattle.rulebook.specs.Sizes.{mostCells, mostBlocks, handleRow, taskRow, controlWords, blockWords}
+use Rattle.rulebook.specs.Sizes.{mostCells, mostBlocks, controlWords, blockWords}
 use Rattle.rulebook.specs.declared.Sizes.{Sizes}
 use Rattle.rulebook.specs.declared.Entry.{Entry}
 use Rattle.rulebook.specs.declared.Slot.{Slot}
@@ -21,7 +19,7 @@ use Rattle.block.specs.declared.Exchanged.{Exchanged}
 use Rattle.acts.specs.declared.Touch.the-variants as touch
 use Rattle.pool.specs.Parts.{part, splice}
 use Rattle.pool.specs.Rows.{slotWords, taskWords, taskFields}
-use Rattle.pool.specs.Places.{slotStart, taskStart, blockStart, slotPart, taskPart, blockPart, Spans, Small, Place}
+use Rattle.pool.specs.Places.{slotStart, taskStart, blockStart, taskPart, blockPart, Spans, Small, Place}
 use Rattle.pool.specs.Pool.{putSlot, putTask, putBlock, raised, putDone, touchedIn}
 
 -- row j of so many rows ends within what they take

@@ -1,8 +1,8 @@
 -- What an accepted open leaves: a header that describes the pool, the machine's opened state, and every word after the control area.
 -- Rests on View and Does.
-use Prim.Native.Nat.{ℕ, zero, suc, _+_, _-_, _*_, _≤_, _<_}
-use mathlib.Core.Path.{_≡_, refl, sym, ap, _∙_, subst}
-use mathlib.Core.Bool.{Bool, true, false}
+use Prim.Native.Nat.{ℕ, zero, suc, _+_, _-_, _≤_, _<_}
+use mathlib.Core.Path.{_≡_, refl, sym, ap, _∙_}
+use mathlib.Core.Bool.{true, false}
 use mathlib.Core.List.{List, _∷_, _++_}
 use native.Mathlib.Omega.{arith}
 use lib.ListN.{length, getD, replicate, length-replicate, List·getD-append, List·getD-eq-default}
@@ -10,22 +10,18 @@ use lib.Seq.{getD-append-add}
 use lib.Dec.{ltb}
 use borrow.Author.Tests.{ltb-true, ltb-false, le-leb, eq-eqb}
 use Rattle.rulebook.specs.Tests.{by-test}
-use Rattle.rulebook.specs.Sizes.{headerWords, handleRow, taskRow, controlWords, blockWords, room, opens}
-use Rattle.rulebook.specs.State.{State, Block, freed, idle, listTo}
-use Rattle.rulebook.specs.Starts.{Lie, opened}
+use Rattle.rulebook.specs.Sizes.{headerWords, controlWords, blockWords, room, opens}
+use Rattle.rulebook.specs.State.{freed, idle, listTo}
+use Rattle.rulebook.specs.Starts.{opened}
 use Rattle.rulebook.specs.Lists.{listTo-same, replicate-get}
 use Rattle.rulebook.specs.declared.Sizes.{Sizes}
-use Rattle.rulebook.specs.declared.Slot.{Slot}
-use Rattle.rulebook.specs.declared.Task.{Task}
-use Rattle.rulebook.specs.declared.Reply.{Reply}
 use Rattle.rulebook.specs.declared.Reply.the-variants as reply
 use Rattle.block.specs.Sound.{blockOf}
-use Rattle.pool.specs.declared.Header.{Header}
 use Rattle.pool.specs.declared.Header.the-variants as header
-use Rattle.pool.specs.Parts.{part, splice, rowPart, Fitting, length-part, getD-part, splice-length, splice-before, splice-after, splice-part, part-after}
+use Rattle.pool.specs.Parts.{part, splice, Fitting, length-part, getD-part, splice-length, splice-after, splice-part, part-after}
 use Rattle.pool.specs.Rows.{slotRead, taskRead}
-use Rattle.pool.specs.Places.{taskBase, blockBase, slotPart, taskPart, blockPart}
-use Rattle.pool.specs.Header.{mark, form, headerFields, headed, sizesOf, sizesIn, headerOf}
+use Rattle.pool.specs.Places.{slotPart, taskPart, blockPart}
+use Rattle.pool.specs.Header.{headerFields, headed, sizesOf, sizesIn, headerOf}
 use Rattle.pool.specs.Sizing.{Openable, opens-says}
 use Rattle.pool.specs.Pool.{viewOf, controlOf, openUnder, openIn, lieOf}
 use Rattle.pool.specs.Lends.{row-ends}

@@ -1,6 +1,6 @@
 -- Where the rows and the blocks of a pool lie, and when a pool holds them.
 -- Rests on the rule book's sizes and on Parts.
-use Prim.Native.Nat.{ℕ, _+_, _*_, _≤_, _<_}
+use Prim.Native.Nat.{ℕ, _+_, _*_, _≤_}
 use mathlib.Core.Path.{_≡_}
 use mathlib.Core.List.{List}
 use lib.ListN.{length}

@@ -6,7 +6,7 @@ use mathlib.Core.Bool.{Bool, true, false}
 use mathlib.Core.List.{List, _++_}
 use lib.ListN.{length, drop, replicate}
 use lib.Dec.{ltb}
-use Rattle.rulebook.specs.Sizes.{if_then_else_, headerWords, handleRow, taskRow, controlWords, blockWords}
+use Rattle.rulebook.specs.Sizes.{headerWords, handleRow, taskRow, controlWords, blockWords}
 use Rattle.rulebook.specs.State.{State, listTo}
 use Rattle.rulebook.specs.Starts.{Lie}
 use Rattle.rulebook.specs.declared.Sizes.{Sizes}

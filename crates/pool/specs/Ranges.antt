@@ -1,13 +1,13 @@
 -- What is written is what is read, and a row that was read lies in its ranges.
 -- Rests on Codes and Rows.
-use Prim.Native.Nat.{ℕ, _<_}
-use mathlib.Core.Path.{_≡_, refl, sym, ap, _∙_, subst}
+use Prim.Native.Nat.{ℕ}
+use mathlib.Core.Path.{_≡_, refl, sym, ap, _∙_}
 use mathlib.Core.Bool.{Bool, true, false, not, _&&_}
 use mathlib.Core.List.{List, _++_}
 use native.Mathlib.Omega.{arith}
 use lib.ListN.{getD}
 use lib.Dec.{ltb, leb, eqb}
-use borrow.Author.Tests.{ltb-true, leb-true, lt-ltb, eq-eqb}
+use borrow.Author.Tests.{ltb-true, leb-true, eq-eqb}
 use Rattle.rulebook.specs.Sizes.{lastSerial}
 use Rattle.rulebook.specs.Tests.{by-test, and-both}
 use Rattle.rulebook.specs.State.{freed, idle}
@@ -19,7 +19,7 @@ use Rattle.rulebook.specs.declared.Task.{Task}
 use Rattle.acts.specs.declared.SlotRow.the-variants as slotrow
 use Rattle.acts.specs.declared.TaskRow.the-variants as taskrow
 use Rattle.pool.specs.Codes.{codeOf, stageOf, stageFrom, isCode, statusCode, statusFrom, stage-from, status-from}
-use Rattle.pool.specs.Rows.{slotWords, slotRead, slotFits, slotRowOf, bitOf, taskWords, taskRead, mostSteps, standsIn, worksIn, taskFits, taskRowOf, SlotRanged, Ranged}
+use Rattle.pool.specs.Rows.{slotWords, slotRead, slotFits, slotRowOf, bitOf, taskWords, taskRead, standsIn, worksIn, taskFits, taskRowOf, SlotRanged, Ranged}
 
 -- ---- what is written is what is read
 

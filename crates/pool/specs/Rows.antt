@@ -1,9 +1,8 @@
 -- The words of a handle row and of a task row, what is read of them, and the ranges that are tested where a row is read.
 -- Rests on Codes.
 use Prim.Native.Nat.{ℕ, _≤_, _<_}
-use mathlib.Core.Path.{_≡_}
 use mathlib.Core.Bool.{Bool, true, false, not, _&&_}
-use mathlib.Core.List.{List, [], _∷_, _++_}
+use mathlib.Core.List.{List, [], _∷_}
 use lib.ListN.{getD}
 use lib.Dec.{ltb, leb, eqb}
 use Rattle.rulebook.specs.Sizes.{if_then_else_, lastSerial}

@@ -2,7 +2,7 @@
 -- Rests on Header and Places.
 use Prim.Native.Nat.{ℕ, _+_, _-_, _*_, _/_, _≤_, _<_, min}
 use mathlib.Core.Path.{_≡_, refl, sym, ap, _∙_, subst}
-use mathlib.Core.Bool.{Bool, true, false, not, _&&_}
+use mathlib.Core.Bool.{true, _&&_}
 use mathlib.Core.List.{List}
 use native.Mathlib.Nat.{min-le-left, min-le-right, le-min, le-trans, mul-le-mul-left, mul-div-le, le-div-iff-mul-le, div-lt-iff-lt-mul}
 use native.Mathlib.Omega.{arith}
@@ -12,7 +12,6 @@ use borrow.Author.Tests.{leb-true, eqb-true}
 use Rattle.rulebook.specs.Sizes.{mostCells, mostHandles, mostTasks, mostBlocks, mostWords, headerWords, controlWords, blockWords, room, within, opens}
 use Rattle.rulebook.specs.Tests.{by-test, and-both}
 use Rattle.rulebook.specs.declared.Sizes.{Sizes}
-use Rattle.pool.specs.declared.Header.{Header}
 use Rattle.pool.specs.declared.Header.the-variants as header
 use Rattle.pool.specs.Places.{Spans}
 use Rattle.pool.specs.Header.{mark, form, limited, sizesOf, sizesIn, headerOf}

@@ -7,7 +7,7 @@ use mathlib.Core.List.{List}
 use lib.ListN.{length, drop}
 use borrow.Author.Tests.{ne-eqb}
 use Rattle.rulebook.specs.Sizes.{blockWords}
-use Rattle.rulebook.specs.State.{State, Block, noBlock, freed, idle, slotAt, taskAt, blockAt, withSlot, withTask, withBlock, listTo}
+use Rattle.rulebook.specs.State.{Block, noBlock, freed, idle, slotAt, taskAt, blockAt, withSlot, withTask, withBlock, listTo}
 use Rattle.rulebook.specs.Lists.{listTo-length, listTo-get, listTo-same, listTo-set}
 use Rattle.rulebook.specs.declared.Sizes.{Sizes}
 use Rattle.rulebook.specs.declared.Slot.{Slot}
