@@ -1,3 +1,4 @@
+pub mod Sound
 pub mod Searches
 pub mod Planned
 pub mod PlannedStep

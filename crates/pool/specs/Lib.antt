@@ -13,3 +13,4 @@ pub mod Ranges
 pub mod View
 pub mod Acts
 pub mod Opened
+pub mod Calls
