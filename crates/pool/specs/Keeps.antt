@@ -24,49 +24,58 @@ use Rattle.pool.specs.Lends.{row-ends}
 
 -- ---- one row of many
 
-module _ (p : List ℕ) (base width count : ℕ) (room : base + width * count ≤ length p) where
-  pub row-length : (j : ℕ) → j < count → length (rowPart p base width j) ≡ width
-  row-length j h =
-      let e = row-ends width j count h in
-      let l = length-part p (base + width * j) (base + width * j + width) (omega arith) (omega arith) in
-      omega arith
+-- w is put in row i of so many rows of one width
+pub record Placed (p : List ℕ) (base width count i : ℕ) (w : List ℕ) : Type 0 where
+  pub room : base + width * count ≤ length p
+  pub row : i < count
+  pub long : length w ≡ width
 
-  module _ (i : ℕ) (h : i < count) (w : List ℕ) (long : length w ≡ width) where
-    fitting : Fitting p (base + width * i) (base + width * i + width) w
-    fitting = let e = row-ends width i count h in record { order = omega arith; within = omega arith; long = omega arith }
+module _ {p : List ℕ} {base width count i : ℕ} {w : List ℕ} (r : Placed p base width count i w) where
+  row-stops : base + width * i + width ≤ base + width * count
+  row-stops = let e = row-ends width i count (r .row) in omega arith
 
-    pub row-long : length (putRow p base width i w) ≡ length p
-    row-long = splice-length p _ _ w fitting
+  fitting : Fitting p (base + width * i) (base + width * i + width) w
+  fitting = let e = row-stops in let l = r .room in let n = r .long in record { order = omega arith; within = omega arith; long = omega arith }
 
-    pub row-own : rowPart (putRow p base width i w) base width i ≡ w
-    row-own = splice-part p _ _ w fitting
+  pub row-long : length (putRow p base width i w) ≡ length p
+  row-long = splice-length p _ _ w fitting
 
-    pub row-other : (j : ℕ) → j < count → eqb j i ≡ false → rowPart (putRow p base width i w) base width j ≡ rowPart p base width j
-    row-other j l d =
-        let e = row-ends width j count l in
-        by-test (ltb j i)
-        (λ b. let u = row-ends width j i (ltb-true j i b) in part-before p _ _ w fitting _ _ (omega arith) (omega arith))
-        (λ b.
-        let y : i < j = omega (arith, ltb-false j i b, eqb-false j i d) in
-        let u = row-ends width i j y in
-        part-after p _ _ w fitting _ _ (omega arith) (omega arith) (omega arith))
+  pub row-own : rowPart (putRow p base width i w) base width i ≡ w
+  row-own = splice-part p _ _ w fitting
 
-    pub word-before : (x : ℕ) → x < base → getD (putRow p base width i w) x 0 ≡ getD p x 0
-    word-before x l = splice-before p _ _ w fitting x (omega arith)
+  pub row-other : (j : ℕ) → j < count → eqb j i ≡ false → rowPart (putRow p base width i w) base width j ≡ rowPart p base width j
+  row-other j l d =
+      let e = row-ends width j count l in
+      let m = r .room in
+      by-test (ltb j i)
+      (λ b. let u = row-ends width j i (ltb-true j i b) in part-before p _ _ w fitting _ _ (omega arith) (omega arith))
+      (λ b.
+      let y : i < j = omega (arith, ltb-false j i b, eqb-false j i d) in
+      let u = row-ends width i j y in
+      part-after p _ _ w fitting _ _ (omega arith) (omega arith) (omega arith))
 
-    pub word-after : (x : ℕ) → base + width * count ≤ x → getD (putRow p base width i w) x 0 ≡ getD p x 0
-    word-after x l = let e = row-ends width i count h in splice-after p _ _ w fitting x (omega arith)
+  pub word-before : (x : ℕ) → x < base → getD (putRow p base width i w) x 0 ≡ getD p x 0
+  word-before x l = splice-before p _ _ w fitting x (omega arith)
 
-    -- rows of another kind
-    pub row-away : (base′ width′ count′ : ℕ) → base′ + width′ * count′ ≤ length p → (base′ + width′ * count′ ≤ base) ⊎ (base + width * count ≤ base′)
-        → (j : ℕ) → j < count′ → rowPart (putRow p base width i w) base′ width′ j ≡ rowPart p base′ width′ j
-    row-away base′ width′ count′ room′ apart j l =
-        let e = row-ends width i count h in
-        let f = row-ends width′ j count′ l in
-        ⊎-elim
-        (λ (a : base′ + width′ * count′ ≤ base). part-before p _ _ w fitting _ _ (omega arith) (omega arith))
-        (λ (a : base + width * count ≤ base′). part-after p _ _ w fitting _ _ (omega arith) (omega arith) (omega arith))
-        apart
+  pub word-after : (x : ℕ) → base + width * count ≤ x → getD (putRow p base width i w) x 0 ≡ getD p x 0
+  word-after x l = let e = row-stops in splice-after p _ _ w fitting x (omega arith)
+
+  -- rows of another kind
+  pub row-away : (base′ width′ count′ : ℕ) → base′ + width′ * count′ ≤ length p → (base′ + width′ * count′ ≤ base) ⊎ (base + width * count ≤ base′)
+      → (j : ℕ) → j < count′ → rowPart (putRow p base width i w) base′ width′ j ≡ rowPart p base′ width′ j
+  row-away base′ width′ count′ room apart j l =
+      let e = row-stops in
+      let f = row-ends width′ j count′ l in
+      ⊎-elim
+      (λ (a : base′ + width′ * count′ ≤ base). part-before p _ _ w fitting _ _ (omega arith) (omega arith))
+      (λ (a : base + width * count ≤ base′). part-after p _ _ w fitting _ _ (omega arith) (omega arith) (omega arith))
+      apart
+
+pub row-length : (p : List ℕ) (base width count : ℕ) → base + width * count ≤ length p → (j : ℕ) → j < count → length (rowPart p base width j) ≡ width
+row-length p base width count room j h =
+    let e = row-ends width j count h in
+    let l = length-part p (base + width * j) (base + width * j + width) (omega arith) (omega arith) in
+    omega arith
 
 -- ---- what stays
 
@@ -169,60 +178,60 @@ module _ {d : Sizes} {p : List ℕ} (g : Spans d p) where
   block-sized k h = record { some = g .someCells; few = g .cells; long = block-length k h }
 
   module _ (j : ℕ) (h : j < d .h) (x : Slot) where
-    words-slot : length (slotWords x) ≡ handleRow
+    placed-slot : Placed p headerWords handleRow (d .h) j (slotWords x)
     unfolding slotWords
-    words-slot = refl
+    placed-slot = record { room = slots-room; row = h; long = refl }
 
     pub slot-own : slotPart (putSlot p j x) j ≡ slotWords x
     unfolding slotPart putSlot
-    slot-own = row-own p headerWords handleRow (d .h) slots-room j h (slotWords x) words-slot
+    slot-own = row-own placed-slot
 
     pub slot-keeps : Keeps d p (putSlot p j x) (only j) none none
     unfolding slotPart taskPart blockPart putSlot
     slot-keeps = record {
-      long = row-long p headerWords handleRow (d .h) slots-room j h (slotWords x) words-slot;
-      first = word-before p headerWords handleRow (d .h) slots-room j h (slotWords x) words-slot;
-      slots = row-other p headerWords handleRow (d .h) slots-room j h (slotWords x) words-slot;
-      tasks = λ t l e. row-away p headerWords handleRow (d .h) slots-room j h (slotWords x) words-slot (taskBase d) taskRow (d .t) tasks-room (inr (omega arith)) t l;
-      blocks = λ k l e. row-away p headerWords handleRow (d .h) slots-room j h (slotWords x) words-slot (blockBase d) (blockWords (d .n)) (d .b) (g .long) (inr slots-first) k l;
-      rest = λ i l. word-after p headerWords handleRow (d .h) slots-room j h (slotWords x) words-slot i (let a = slots-first in omega arith);
+      long = row-long placed-slot;
+      first = word-before placed-slot;
+      slots = row-other placed-slot;
+      tasks = λ t l e. row-away placed-slot (taskBase d) taskRow (d .t) tasks-room (inr (omega arith)) t l;
+      blocks = λ k l e. row-away placed-slot (blockBase d) (blockWords (d .n)) (d .b) (g .long) (inr slots-first) k l;
+      rest = λ i l. word-after placed-slot i (let a = slots-first in omega arith);
     }
 
   module _ (t : ℕ) (h : t < d .t) (k : Task) where
-    abbrev row : List ℕ
-    row = taskWords k ++ drop taskFields (taskPart p d t)
-
-    words-task : length row ≡ taskRow
+    placed-task : Placed p (taskBase d) taskRow (d .t) t (taskWords k ++ drop taskFields (taskPart p d t))
     unfolding taskWords
-    words-task = simp length-drop (omega (arith, task-length t h))
+    placed-task = record { room = tasks-room; row = h; long = simp length-drop (omega (arith, task-length t h)) }
 
     pub task-own : taskPart (putTask p d t k) d t ≡ taskWords k ++ drop taskFields (taskPart p d t)
     unfolding putTask taskPart
-    task-own = row-own p (taskBase d) taskRow (d .t) tasks-room t h row words-task
+    task-own = row-own placed-task
 
     pub task-keeps : Keeps d p (putTask p d t k) none (only t) none
     unfolding slotPart taskPart blockPart putTask
     task-keeps = record {
-      long = row-long p (taskBase d) taskRow (d .t) tasks-room t h row words-task;
-      first = λ i l. word-before p (taskBase d) taskRow (d .t) tasks-room t h row words-task i (omega arith);
-      slots = λ j l e. row-away p (taskBase d) taskRow (d .t) tasks-room t h row words-task headerWords handleRow (d .h) slots-room (inl (omega arith)) j l;
-      tasks = row-other p (taskBase d) taskRow (d .t) tasks-room t h row words-task;
-      blocks = λ k l e. row-away p (taskBase d) taskRow (d .t) tasks-room t h row words-task (blockBase d) (blockWords (d .n)) (d .b) (g .long) (inr tasks-first) k l;
-      rest = λ i l. word-after p (taskBase d) taskRow (d .t) tasks-room t h row words-task i (let a = tasks-first in omega arith);
+      long = row-long placed-task;
+      first = λ i l. word-before placed-task i (omega arith);
+      slots = λ j l e. row-away placed-task headerWords handleRow (d .h) slots-room (inl (omega arith)) j l;
+      tasks = row-other placed-task;
+      blocks = λ k l e. row-away placed-task (blockBase d) (blockWords (d .n)) (d .b) (g .long) (inr tasks-first) k l;
+      rest = λ i l. word-after placed-task i (let a = tasks-first in omega arith);
     }
 
   module _ (k : ℕ) (h : k < d .b) (w : List ℕ) (long : length w ≡ blockWords (d .n)) where
+    placed-block : Placed p (blockBase d) (blockWords (d .n)) (d .b) k w
+    placed-block = record { room = g .long; row = h; long = long }
+
     pub block-own : blockPart (putBlock p d k w) d k ≡ w
     unfolding putBlock blockPart
-    block-own = row-own p (blockBase d) (blockWords (d .n)) (d .b) (g .long) k h w long
+    block-own = row-own placed-block
 
     pub block-keeps : Keeps d p (putBlock p d k w) none none (only k)
     unfolding slotPart taskPart blockPart putBlock
     block-keeps = record {
-      long = row-long p (blockBase d) (blockWords (d .n)) (d .b) (g .long) k h w long;
-      first = λ i l. word-before p (blockBase d) (blockWords (d .n)) (d .b) (g .long) k h w long i (let a = slots-first in omega arith);
-      slots = λ j l e. row-away p (blockBase d) (blockWords (d .n)) (d .b) (g .long) k h w long headerWords handleRow (d .h) slots-room (inl slots-first) j l;
-      tasks = λ t l e. row-away p (blockBase d) (blockWords (d .n)) (d .b) (g .long) k h w long (taskBase d) taskRow (d .t) tasks-room (inl tasks-first) t l;
-      blocks = row-other p (blockBase d) (blockWords (d .n)) (d .b) (g .long) k h w long;
-      rest = word-after p (blockBase d) (blockWords (d .n)) (d .b) (g .long) k h w long;
+      long = row-long placed-block;
+      first = λ i l. word-before placed-block i (let a = slots-first in omega arith);
+      slots = λ j l e. row-away placed-block headerWords handleRow (d .h) slots-room (inl slots-first) j l;
+      tasks = λ t l e. row-away placed-block (taskBase d) taskRow (d .t) tasks-room (inl tasks-first) t l;
+      blocks = row-other placed-block;
+      rest = word-after placed-block;
     }

@@ -29,9 +29,6 @@ row-ends width j count h = rw (← mul-suc) (mul-le-mul-left width h)
 -- ---- rows
 
 module _ {d : Sizes} {p : List ℕ} (g : Spans d p) where
-  pub slot-small : (j : ℕ) → j < d .h → j < 256
-  slot-small j h = let a = g .handles in omega arith
-
   pub slot-ends : (j s : ℕ) → j < d .h → s ≡ slotStart j → s + 4 ≤ length p
   unfolding controlWords
   slot-ends j s h e = let l = g .long in omega arith
@@ -61,9 +58,6 @@ spans-small d p k g h = record {
 }
 
 module _ {d : Sizes} {k : ℕ} (s : Small d k) where
-  pub small-cells : d .n ≤ mostCells
-  small-cells = s .cells
-
   module _ (z x : ℕ) (e : z ≡ blockWords (d .n)) (f : x ≡ k) where
     before : z * x ≤ 81936 * 256
     unfolding blockWords
@@ -81,7 +75,7 @@ module _ {d : Sizes} {k : ℕ} (s : Small d k) where
     pub extent-place : (c : ℕ) → c ≡ controlWords (d .h) (d .t) → Place d k (c + z * x) (c + z * x + z)
     extent-place c q = record { start = rw (e, f, q); stop = rw (e, f, q) }
 
-pub ruleset extents = (small-cells, extent-mul, extent-start, extent-stop, extent-place)
+pub ruleset extents = (extent-mul, extent-start, extent-stop, extent-place)
 
 -- ---- a block
 
@@ -130,6 +124,6 @@ module _ (d : Sizes) (p : List ℕ) (k s e : ℕ) (q : Place d k s e) where
       unfolding touchedIn
       fill-put i v f = put-as w r _ (f ∙ ap (λ (b : List ℕ). fillIn (d .n) b i v) block-got)
 
-pub ruleset lends = (slot-small, slot-ends, task-ends, slot-put, task-put, spans-small, block-got, place-end, place-scaled)
+pub ruleset lends = (slot-ends, task-ends, slot-put, task-put, spans-small, place-end, place-scaled)
 
 pub ruleset touches = (exchange-put, append-put, write-put, take-put, fill-put)

@@ -12,5 +12,6 @@ pub mod Keeps
 pub mod Ranges
 pub mod View
 pub mod Acts
+pub mod Seen
 pub mod Opened
 pub mod Calls

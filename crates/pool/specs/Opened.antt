@@ -1,5 +1,5 @@
 -- What an accepted open leaves: a header that describes the pool, the machine's opened state, and every word after the control area.
--- Rests on View and Does.
+-- Rests on Sizing, Ranges and Seen.
 use Prim.Native.Nat.{ℕ, zero, suc, _+_, _-_, _≤_, _<_}
 use mathlib.Core.Path.{_≡_, refl, sym, ap, _∙_}
 use mathlib.Core.Bool.{true, false}
@@ -25,7 +25,8 @@ use Rattle.pool.specs.Header.{headerFields, headed, sizesOf, sizesIn, he
 use Rattle.pool.specs.Sizing.{Openable, opens-says}
 use Rattle.pool.specs.Pool.{viewOf, controlOf, openUnder, openIn, lieOf}
 use Rattle.pool.specs.Lends.{row-ends}
-use Rattle.pool.specs.Ranges.{slot-zero, task-zero}
+use Rattle.pool.specs.Ranges.{slot-zero, task-zero, slot-zero-row, task-zero-row}
+use Rattle.pool.specs.Seen.{Legible}
 
 pub listTo-replicate : {A : Type 0} (n : ℕ) (a : A) → listTo n (λ (i : ℕ). a) ≡ replicate n a
 unfolding listTo
@@ -99,27 +100,43 @@ module _ (p : List ℕ) (n h t : ℕ) (o : opens n h t (length p) ≡ true) wher
       let c = head-fits in
       rw (after-long, head-word 0 (omega arith), head-word 1 (omega arith), head-word 2 (omega arith), head-word 3 (omega arith), head-word 4 (omega arith), head-word 5 (omega arith), le-leb 16 (length p) (omega arith), eq-eqb (length p) (length p) refl, o)
 
+  zero-slot : (j : ℕ) → j < h → (i : ℕ) → getD (slotPart after j) i 0 ≡ 0
+  unfolding slotPart controlWords
+  zero-slot j l = zero-part _ _ (omega arith) (omega arith) (omega arith)
+
+  zero-task : (k : ℕ) → k < t → (i : ℕ) → getD (taskPart after d k) i 0 ≡ 0
+  unfolding taskPart controlWords
+  zero-task k l = zero-part _ _ (omega arith) (omega arith) (omega arith)
+
+  kept-block : (k : ℕ) → k < room n h t (length p) → blockPart after d k ≡ blockPart p d k
+  unfolding blockPart
+  kept-block k l =
+      let e = row-ends (blockWords n) k (room n h t (length p)) l in
+      let f = may .fits in
+      part-after p _ _ _ fitting _ _ (omega arith) (omega arith) (omega arith)
+
   after-view : viewOf d after ≡ opened n h t (length p) (lieOf d p)
-  unfolding viewOf opened lieOf blockOf slotPart taskPart blockPart controlWords
+  unfolding viewOf opened lieOf blockOf
   after-view =
       λ i. record {
         sizes = d;
         slots =
-            (listTo-same h (λ (j : ℕ). slotRead (slotPart after j)) (λ (j : ℕ). freed 0)
-            (λ j l. slot-zero _ (zero-part _ _ (omega arith) (omega arith) (omega arith))) ∙ listTo-replicate h (freed 0)) i;
+            (listTo-same h (λ (j : ℕ). slotRead (slotPart after j)) (λ (j : ℕ). freed 0) (λ j l. slot-zero _ (zero-slot j l))
+            ∙ listTo-replicate h (freed 0)) i;
         tasks =
-            (listTo-same t (λ (j : ℕ). taskRead (taskPart after d j)) (λ (j : ℕ). idle)
-            (λ j l. task-zero _ (zero-part _ _ (omega arith) (omega arith) (omega arith))) ∙ listTo-replicate t idle) i;
+            (listTo-same t (λ (k : ℕ). taskRead (taskPart after d k)) (λ (k : ℕ). idle) (λ k l. task-zero _ (zero-task k l))
+            ∙ listTo-replicate t idle) i;
         blocks =
             listTo-same (room n h t (length p)) (λ (k : ℕ). blockOf n (blockPart after d k)) (λ (k : ℕ). blockOf n (blockPart p d k))
-            (λ k l. ap (blockOf n) (kept k l)) i;
+            (λ k l. ap (blockOf n) (kept-block k l)) i;
       }
-    where
-      kept : (k : ℕ) → k < room n h t (length p) → blockPart after d k ≡ blockPart p d k
-      kept k l =
-          let e = row-ends (blockWords n) k (room n h t (length p)) l in
-          let f = may .fits in
-          part-after p _ _ _ fitting _ _ (omega arith) (omega arith) (omega arith)
+
+  -- a row of 0 may be read
+  after-legible : Legible d after
+  after-legible = record {
+    slots = λ j l. slot-zero-row d (slotPart after j) (may .some) (zero-slot j l);
+    tasks = λ k l. task-zero-row d (taskPart after d k) (may .limits .someCells) (may .limits .someHandles) (may .some) (zero-task k l);
+  }
 
   -- ---- the laws
 
@@ -142,3 +159,6 @@ module _ (p : List ℕ) (n h t : ℕ) (o : opens n h t (length p) ≡ true) wher
   -- the blocks, and what is after them, are as they lay
   pub open-rest : (i : ℕ) → controlWords h t ≤ i → getD (openIn p n h t .0) i 0 ≡ getD p i 0
   open-rest i l = rw open-is (splice-after p _ _ _ fitting i l)
+
+  pub open-legible : Legible d (openIn p n h t .0)
+  open-legible = rw open-is after-legible

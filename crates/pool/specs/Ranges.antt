@@ -1,13 +1,13 @@
 -- What is written is what is read, and a row that was read lies in its ranges.
 -- Rests on Codes and Rows.
-use Prim.Native.Nat.{ℕ}
+use Prim.Native.Nat.{ℕ, _≤_}
 use mathlib.Core.Path.{_≡_, refl, sym, ap, _∙_}
 use mathlib.Core.Bool.{Bool, true, false, not, _&&_}
 use mathlib.Core.List.{List, _++_}
 use native.Mathlib.Omega.{arith}
 use lib.ListN.{getD}
 use lib.Dec.{ltb, leb, eqb}
-use borrow.Author.Tests.{ltb-true, leb-true, eq-eqb}
+use borrow.Author.Tests.{ltb-true, leb-true, lt-ltb, le-leb, eq-eqb}
 use Rattle.rulebook.specs.Sizes.{lastSerial}
 use Rattle.rulebook.specs.Tests.{by-test, and-both}
 use Rattle.rulebook.specs.State.{freed, idle}
@@ -142,3 +142,13 @@ slot-zero w z = rw (z 0, z 1, z 2, z 3)
 pub task-zero : (w : List ℕ) → ((i : ℕ) → getD w i 0 ≡ 0) → taskRead w ≡ idle
 unfolding taskRead stageFrom stageOf
 task-zero w z = rw (z 0, z 1, z 2, z 3, z 4, z 5, z 6, z 7, z 8, z 9, z 10, z 11, z 12, z 13, z 14, z 15, z 16)
+
+pub slot-zero-row : (d : Sizes) (w : List ℕ) → 1 ≤ d .b → ((i : ℕ) → getD w i 0 ≡ 0) → slotRowOf d w ≡ slotrow.Row (slotRead w)
+unfolding slotRowOf slotFits
+slot-zero-row d w b z =
+    rw (slot-zero w z, z 1, lt-ltb 0 (d .b) (omega arith), le-leb 0 (d .n) (omega arith), le-leb 0 lastSerial (omega arith))
+
+pub task-zero-row : (d : Sizes) (w : List ℕ) → 1 ≤ d .n → 1 ≤ d .h → 1 ≤ d .b → ((i : ℕ) → getD w i 0 ≡ 0) → taskRowOf d w ≡ taskrow.Row (taskRead w)
+unfolding taskRowOf taskFits standsIn worksIn isCode stageFrom stageOf codeOf
+task-zero-row d w n h b z =
+    rw (task-zero w z, z 0, lt-ltb 0 (d .h) (omega arith), lt-ltb 0 (d .b) (omega arith), lt-ltb 0 (d .n) (omega arith), le-leb 0 (d .n) (omega arith))

@@ -20,7 +20,7 @@ use Rattle.acts.specs.declared.SlotRow.the-variants as slotrow
 use Rattle.acts.specs.declared.TaskRow.the-variants as taskrow
 use Rattle.pool.specs.declared.Header.{Header}
 use Rattle.pool.specs.declared.Header.the-variants as header
-use Rattle.pool.specs.Sizing.{Limits, limited-says, opens-by, room-none, room-some}
+use Rattle.pool.specs.Sizing.{Limits, limited-says, opens-by, room-none, room-some, block-positive}
 use Rattle.pool.specs.Codes.{codeOf, stageFrom, isCode, statusCode, statusFrom}
 use Rattle.pool.specs.Rows.{bitOf, slotWords, slotRead, slotFits, slotRowOf, taskFields, taskWords, taskRead, standsIn, worksIn, taskFits, taskRowOf}
 use Rattle.pool.specs.Header.{mark, form, limited, sizesOf, sizesIn, headed, headerFields, headerOf}
@@ -78,7 +78,7 @@ module _ (n h t words : ℕ) where
               (sym (min-eq-left {n = mostBlocks} {m = (words - c) / z} f) ∙ ap₂ (λ (x y : ℕ). min mostBlocks ((words - x) / y)) ec ez)
               ∙ good
 
-pub ruleset sizing = (sizes-unlimited, sizes-cells, sizes-handles, sizes-tasks, sizes-long, sizes-short, sizes-few, sizes-many)
+pub ruleset sizing = (sizes-unlimited, sizes-cells, sizes-handles, sizes-tasks, sizes-long, sizes-short, sizes-few, sizes-many, block-positive)
 
 -- ---- rows
 

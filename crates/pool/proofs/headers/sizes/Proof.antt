@@ -1,5 +1,4 @@
 use Rattle.pool.specs.Ways.{sizing}
-use Rattle.pool.specs.Sizing.{block-positive}
 use borrow.Author.Needs.{needs}
 use Rattle.pool.proofs.headers.sizes.Statement.{statement}
 use Rattle.pool.proofs.headers.sizes.Tie as tie
@@ -8,15 +7,15 @@ pub sizes-spec : {M : Type 1} → statement M
 sizes-spec =
     tie.close
     (tie.spec
-    (λ c κs. search (needs, sizing, block-positive))
-    (λ c. search (needs, sizing, block-positive))
-    (λ c. search (needs, sizing, block-positive))
-    (λ c κs. search (needs, sizing, block-positive))
-    (λ c κs. search (needs, sizing, block-positive))
-    (λ c. search (needs, sizing, block-positive))
-    (λ c. search (needs, sizing, block-positive))
-    (λ c. search (needs, sizing, block-positive))
-    (λ c. search (needs, sizing, block-positive))
-    (λ c. search (needs, sizing, block-positive))
-    (λ c. search (needs, sizing, block-positive))
-    (λ c. search (needs, sizing, block-positive)))
+    (λ c κs. search (needs, sizing))
+    (λ c. search (needs, sizing))
+    (λ c. search (needs, sizing))
+    (λ c κs. search (needs, sizing))
+    (λ c κs. search (needs, sizing))
+    (λ c. search (needs, sizing))
+    (λ c. search (needs, sizing))
+    (λ c. search (needs, sizing))
+    (λ c. search (needs, sizing))
+    (λ c. search (needs, sizing))
+    (λ c. search (needs, sizing))
+    (λ c. search (needs, sizing)))

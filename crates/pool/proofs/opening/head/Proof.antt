@@ -15,5 +15,5 @@ head-spec =
     (λ c. simp length-set (omega arith))
     (λ c. simp length-set (omega arith))
     (λ c. simp length-set (omega arith))
-    (λ c. search (needs, header-headed))
+    (λ c. search needs)
     (λ c. search (needs, header-headed)))
