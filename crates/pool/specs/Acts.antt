@@ -34,13 +34,13 @@ use Rattle.acts.specs.declared.TaskChange.the-variants as task
 use Rattle.acts.specs.declared.Act.{Act}
 use Rattle.pool.specs.Places.{blockPart, Spans}
 use Rattle.pool.specs.Pool.{viewOf, putBlock, raised, putDone, touchedIn, seatedIn, turnedIn, actedIn, appliedIn, touchNear, slotNear, taskNear, InReach}
-use Rattle.pool.specs.Keeps.{none, only, Keeps, keeps-spans, keeps-all, keeps-both, slots-alone, tasks-alone, blocks-alone, slot-keeps, task-keeps, block-keeps, block-length, block-sized}
+use Rattle.pool.specs.Keeps.{none, only, Keeps, keeps-spans, keeps-all, keeps-both, slots-alone, tasks-alone, blocks-alone, slot-keeps, task-keeps, block-own, block-keeps, block-length, block-sized}
 use Rattle.pool.specs.View.{view-block-at, view-slot, view-task, view-block}
 
 -- ---- a touch leaves a block as long as it was
 
 module _ (n : ℕ) (w : List ℕ) where
-  exchange-length : (l : ℕ) → length (exchangeIn n w l .0) ≡ length w
+  pub exchange-length : (l : ℕ) → length (exchangeIn n w l .0) ≡ length w
   unfolding exchangeIn
   exchange-length l =
       by-test (isBlock n w)
@@ -52,21 +52,26 @@ module _ (n : ℕ) (w : List ℕ) where
   append-at-length (room.At s) i v o = simp length-set
   append-at-length room.Full i v o = refl
 
-  append-length : (i v o : ℕ) → length (appendIn n w i v o .0) ≡ length w
+  pub append-length : (i v o : ℕ) → length (appendIn n w i v o .0) ≡ length w
   unfolding appendIn
   append-length i v o = append-at-length (roomIn n w i) i v o
 
-  write-length : (i v : ℕ) → length (writeIn n w i v .0) ≡ length w
+  pub write-length : (i v : ℕ) → length (writeIn n w i v .0) ≡ length w
   unfolding writeIn
   write-length i v = by-test (hasCell n w i) (λ a. simp (a, length-set)) (λ a. simp a)
 
-  take-length : length (takeIn n w .0) ≡ length w
+  pub take-length : length (takeIn n w .0) ≡ length w
   unfolding takeIn
   take-length = by-test (isBlock n w) (λ a. simp (a, length-set)) (λ a. simp a)
 
-  fill-length : (i v : ℕ) → length (fillIn n w i v .0) ≡ length w
+  pub fill-length : (i v : ℕ) → length (fillIn n w i v .0) ≡ length w
   unfolding fillIn
   fill-length i v = by-test (hasCell n w i) (λ a. simp (a, length-set)) (λ a. simp a)
+
+-- the touched block has the words that its touch has left
+pub done-own : {d : Sizes} {p : List ℕ} → Spans d p → (k : ℕ) → k < d .b → (z : List ℕ × Bool) → length (z .0) ≡ length (blockPart p d k) → blockPart (putDone p d k z .0) d k ≡ z .0
+unfolding putDone
+done-own g k h z l = block-own g k h (z .0) (l ∙ block-length g k h)
 
 -- ---- what an act names
 

@@ -8,6 +8,7 @@ pub mod Sizing
 pub mod Ways
 pub mod Lends
 pub mod Does
+pub mod Opens
 pub mod Keeps
 pub mod Ranges
 pub mod View

@@ -8,7 +8,7 @@ use native.Mathlib.Omega.{arith}
 use lib.ListN.{length, getD, replicate, length-replicate, List·getD-append, List·getD-eq-default}
 use lib.Seq.{getD-append-add}
 use lib.Dec.{ltb}
-use borrow.Author.Tests.{ltb-true, ltb-false, le-leb, eq-eqb}
+use borrow.Author.Tests.{ltb-true, ltb-false}
 use Rattle.rulebook.specs.Tests.{by-test}
 use Rattle.rulebook.specs.Sizes.{headerWords, controlWords, blockWords, room, opens}
 use Rattle.rulebook.specs.State.{freed, idle, listTo}
@@ -22,7 +22,7 @@ use Rattle.pool.specs.Parts.{part, splice, Fitting, length-part, getD-pa
 use Rattle.pool.specs.Rows.{slotRead, taskRead}
 use Rattle.pool.specs.Places.{slotPart, taskPart, blockPart}
 use Rattle.pool.specs.Header.{headerFields, headed, sizesOf, sizesIn, headerOf}
-use Rattle.pool.specs.Sizing.{Openable, opens-says}
+use Rattle.pool.specs.Sizing.{Openable, opens-says, described-header}
 use Rattle.pool.specs.Pool.{viewOf, controlOf, openUnder, openIn, lieOf}
 use Rattle.pool.specs.Lends.{row-ends}
 use Rattle.pool.specs.Ranges.{slot-zero, task-zero, slot-zero-row, task-zero-row}
@@ -94,11 +94,20 @@ module _ (p : List ℕ) (n h t : ℕ) (o : opens n h t (length p) ≡ true) wher
       (λ q. (let y = ltb-false i (e - s) q in List·getD-eq-default (part after s e) 0 (omega arith)))
 
   after-header : headerOf after ≡ header.Good d
-  unfolding headerOf sizesIn headed
+  unfolding headed
   after-header =
-      let f = may .fits in
-      let c = head-fits in
-      rw (after-long, head-word 0 (omega arith), head-word 1 (omega arith), head-word 2 (omega arith), head-word 3 (omega arith), head-word 4 (omega arith), head-word 5 (omega arith), le-leb 16 (length p) (omega arith), eq-eqb (length p) (length p) refl, o)
+      let l = after-long in
+      described-header after d (record {
+        long = let f = may .fits in let c = head-fits in omega arith;
+        mark = head-word 0 (omega arith);
+        cells = head-word 1 (omega arith);
+        handles = head-word 2 (omega arith);
+        tasks = head-word 3 (omega arith);
+        words = head-word 4 (omega arith) ∙ sym l;
+        form = head-word 5 (omega arith);
+        blocks = ap (room n h t) (sym l);
+        opens = ap (opens n h t) l ∙ o;
+      })
 
   zero-slot : (j : ℕ) → j < h → (i : ℕ) → getD (slotPart after j) i 0 ≡ 0
   unfolding slotPart controlWords

@@ -8,10 +8,11 @@ use native.Mathlib.Nat.{min-le-left, min-le-right, le-min, le-trans, mul-le-mul-
 use native.Mathlib.Omega.{arith}
 use lib.ListN.{length, getD}
 use lib.Dec.{leb, eqb}
-use borrow.Author.Tests.{leb-true, eqb-true}
+use borrow.Author.Tests.{leb-true, eqb-true, le-leb, eq-eqb}
 use Rattle.rulebook.specs.Sizes.{mostCells, mostHandles, mostTasks, mostBlocks, mostWords, headerWords, controlWords, blockWords, room, within, opens}
 use Rattle.rulebook.specs.Tests.{by-test, and-both}
 use Rattle.rulebook.specs.declared.Sizes.{Sizes}
+use Rattle.pool.specs.declared.Header.{Header}
 use Rattle.pool.specs.declared.Header.the-variants as header
 use Rattle.pool.specs.Places.{Spans}
 use Rattle.pool.specs.Header.{mark, form, limited, sizesOf, sizesIn, headerOf}
@@ -96,11 +97,11 @@ opens-says n h t words e =
 bad-good : {A : Type 0} {d : Sizes} → header.Bad ≡ header.Good d → A
 bad-good q = let z : _≡_ {A = ℕ} 0 1 = cc in absurd (omega arith)
 
-pub sizes-good : (n h t words : ℕ) (d : Sizes) → sizesIn n h t words ≡ header.Good d → Openable n h t words × (sizesOf n h t words ≡ d)
+pub sizes-good : (n h t words : ℕ) (d : Sizes) → sizesIn n h t words ≡ header.Good d → (opens n h t words ≡ true) × (sizesOf n h t words ≡ d)
 unfolding sizesIn
 sizes-good n h t words d e =
     by-test (opens n h t words)
-    (λ o. (opens-says n h t words o, (let q : header.Good (sizesOf n h t words) ≡ header.Good d = rw o at e in cc)))
+    (λ o. (o, (let q : header.Good (sizesOf n h t words) ≡ header.Good d = rw o at e in cc)))
     (λ o. bad-good (rw o at e))
 
 -- ---- the header
@@ -115,7 +116,7 @@ pub record Described (d : Sizes) (p : List ℕ) : Type 0 where
   pub words : getD p 4 0 ≡ length p
   pub form : getD p 5 0 ≡ form
   pub blocks : d .b ≡ room (d .n) (d .h) (d .t) (length p)
-  pub opens : Openable (d .n) (d .h) (d .t) (length p)
+  pub opens : opens (d .n) (d .h) (d .t) (length p) ≡ true
 
 pub header-describes : (p : List ℕ) (d : Sizes) → headerOf p ≡ header.Good d → Described d p
 unfolding headerOf
@@ -140,9 +141,15 @@ header-describes p d e =
     }))
     (λ o. bad-good (rw o at e))
 
+pub described-header : (p : List ℕ) (d : Sizes) → Described d p → headerOf p ≡ header.Good d
+unfolding headerOf sizesIn
+described-header p d s =
+    rw (le-leb headerWords (length p) (s .long), eq-eqb _ _ (s .mark), eq-eqb _ _ (s .form), eq-eqb _ _ (s .words), s .cells, s .handles, s .tasks, s .opens)
+    (ap (λ (b : ℕ). header.Good (record { n = d .n; h = d .h; t = d .t; b = b })) (sym (s .blocks)))
+
 pub described-spans : (p : List ℕ) (d : Sizes) → Described d p → Spans d p
 described-spans p d s =
-    let o = s .opens in
+    let o = opens-says (d .n) (d .h) (d .t) (length p) (s .opens) in
     let l = o .limits in
     let b = s .blocks in
     record {
@@ -159,3 +166,7 @@ described-spans p d s =
 
 pub header-spans : (p : List ℕ) (d : Sizes) → headerOf p ≡ header.Good d → Spans d p
 header-spans p d e = described-spans p d (header-describes p d e)
+
+-- in the form in which a caller's match has it
+pub header-read : (p : List ℕ) (d : Sizes) (r : Header) → r ≡ headerOf p → r ≡ header.Good d → Spans d p
+header-read p d r e f = header-spans p d (sym e ∙ f)

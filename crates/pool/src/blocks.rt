@@ -1,5 +1,4 @@
 // Blocks: block k's words are lent on as a part of the pool, and what reads or writes them sees no others.
-use super::Extent;
 use super::block_words;
 use super::control_words;
 use super::wide;
@@ -15,8 +14,14 @@ ghost use Rattle.acts.specs.declared.Touch.the-variants as touch;
 ghost use Rattle.pool.specs.Places.{Spans, Small, Place, blockPart};
 ghost use Rattle.pool.specs.Pool.{raised, touchedIn};
 
+// The words from start to end.
+pub struct Extent {
+    pub start: usize,
+    pub end: usize,
+}
+
 // Where block k lies.
-fn extent(d: Sizes, k: u32) -> Extent
+fn extent_of(d: Sizes, k: u32) -> Extent
     requires { ⌜ Small d k ⌝ }
     ensures { λ r. ⌜ Place d k (r .start) (r .end) ⌝ }
 {
@@ -35,7 +40,7 @@ pub fn version(pool: &[u32], d: Sizes, k: u32) -> Looked
     requires { ⌜ Spans d (now pool) × (k < d .b) ⌝ }
     ensures { λ r. ⌜ r ≡ versionIn (d .n) (blockPart (now (pool .entry)) d k) ⌝ }
 {
-    let x = extent(d, k);
+    let x = extent_of(d, k);
     let s = x.start;
     let e = x.end;
     block::version(&pool[s..e], d.n)
@@ -46,7 +51,7 @@ pub fn cell(pool: &[u32], d: Sizes, k: u32, i: u32) -> Looked
     requires { ⌜ Spans d (now pool) × (k < d .b) ⌝ }
     ensures { λ r. ⌜ r ≡ cellIn (d .n) (blockPart (now (pool .entry)) d k) i ⌝ }
 {
-    let x = extent(d, k);
+    let x = extent_of(d, k);
     let s = x.start;
     let e = x.end;
     block::cell(&pool[s..e], d.n, i)
@@ -57,7 +62,7 @@ pub fn log_length(pool: &[u32], d: Sizes, k: u32, i: u32) -> Looked
     requires { ⌜ Spans d (now pool) × (k < d .b) ⌝ }
     ensures { λ r. ⌜ r ≡ lengthIn (d .n) (blockPart (now (pool .entry)) d k) i ⌝ }
 {
-    let x = extent(d, k);
+    let x = extent_of(d, k);
     let s = x.start;
     let e = x.end;
     block::log_length(&pool[s..e], d.n, i)
@@ -68,7 +73,7 @@ pub fn entry(pool: &[u32], d: Sizes, k: u32, i: u32, j: u32) -> Probed
     requires { ⌜ Spans d (now pool) × (k < d .b) ⌝ }
     ensures { λ r. ⌜ r ≡ entryIn (d .n) (blockPart (now (pool .entry)) d k) i j ⌝ }
 {
-    let x = extent(d, k);
+    let x = extent_of(d, k);
     let s = x.start;
     let e = x.end;
     block::entry(&pool[s..e], d.n, i, j)
@@ -90,7 +95,7 @@ pub fn exchange(pool: &mut [u32], d: Sizes, k: u32, l: u32) -> bool
     requires { ⌜ Spans d (now pool) × (k < d .b) ⌝ }
     ensures { λ r. ⌜ (now (pool .exit), r) ≡ touchedIn (now (pool .entry)) d (touch.Exchange k l) ⌝ }
 {
-    let x = extent(d, k);
+    let x = extent_of(d, k);
     let s = x.start;
     let e = x.end;
     let r = block::exchange(&mut pool[s..e], d.n, l);
@@ -101,7 +106,7 @@ pub fn append(pool: &mut [u32], d: Sizes, k: u32, i: u32, x: Entry) -> bool
     requires { ⌜ Spans d (now pool) × (k < d .b) ⌝ }
     ensures { λ r. ⌜ (now (pool .exit), r) ≡ touchedIn (now (pool .entry)) d (touch.Append k i x) ⌝ }
 {
-    let y = extent(d, k);
+    let y = extent_of(d, k);
     let s = y.start;
     let e = y.end;
     block::append(&mut pool[s..e], d.n, i, x.version, x.old)
@@ -111,7 +116,7 @@ pub fn write(pool: &mut [u32], d: Sizes, k: u32, i: u32, v: u32) -> bool
     requires { ⌜ Spans d (now pool) × (k < d .b) ⌝ }
     ensures { λ r. ⌜ (now (pool .exit), r) ≡ touchedIn (now (pool .entry)) d (touch.Write k i v) ⌝ }
 {
-    let x = extent(d, k);
+    let x = extent_of(d, k);
     let s = x.start;
     let e = x.end;
     block::write(&mut pool[s..e], d.n, i, v)
@@ -121,7 +126,7 @@ pub fn take(pool: &mut [u32], d: Sizes, k: u32) -> bool
     requires { ⌜ Spans d (now pool) × (k < d .b) ⌝ }
     ensures { λ r. ⌜ (now (pool .exit), r) ≡ touchedIn (now (pool .entry)) d (touch.Take k) ⌝ }
 {
-    let x = extent(d, k);
+    let x = extent_of(d, k);
     let s = x.start;
     let e = x.end;
     block::take(&mut pool[s..e], d.n)
@@ -131,7 +136,7 @@ pub fn fill(pool: &mut [u32], d: Sizes, k: u32, i: u32, v: u32) -> bool
     requires { ⌜ Spans d (now pool) × (k < d .b) ⌝ }
     ensures { λ r. ⌜ (now (pool .exit), r) ≡ touchedIn (now (pool .entry)) d (touch.Fill k i v) ⌝ }
 {
-    let x = extent(d, k);
+    let x = extent_of(d, k);
     let s = x.start;
     let e = x.end;
     block::fill(&mut pool[s..e], d.n, i, v)

@@ -31,12 +31,6 @@ pub enum Header {
     Good(Sizes),
 }
 
-// Words s to e of a pool.
-pub struct Extent {
-    pub start: usize,
-    pub end: usize,
-}
-
 fn wide(x: u32) -> usize
     ensures { λ r. ⌜ (r ≡ x) × (r < 4294967296) ⌝ }
 {

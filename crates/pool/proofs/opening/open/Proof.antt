@@ -1,4 +1,4 @@
-use Rattle.pool.specs.Does.{openings}
+use Rattle.pool.specs.Opens.{openings}
 use Rattle.pool.specs.Parts.{part, splice}
 use borrow.Author.Needs.{needs}
 use Rattle.pool.proofs.opening.open.Statement.{statement}

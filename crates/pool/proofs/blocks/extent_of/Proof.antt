@@ -1,10 +1,10 @@
 use Rattle.pool.specs.Lends.{extents}
 use borrow.Author.Needs.{needs}
-use Rattle.pool.proofs.blocks.extent.Statement.{statement}
-use Rattle.pool.proofs.blocks.extent.Tie as tie
+use Rattle.pool.proofs.blocks.extent_of.Statement.{statement}
+use Rattle.pool.proofs.blocks.extent_of.Tie as tie
 
-pub extent-spec : {M : Type 1} → statement M
-extent-spec =
+pub extent-of-spec : {M : Type 1} → statement M
+extent-of-spec =
     tie.close
     (tie.spec
     (λ c κs. search (needs, extents))
