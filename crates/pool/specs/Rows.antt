@@ -7,6 +7,7 @@ use lib.ListN.{getD}
 use lib.Dec.{ltb, leb, eqb}
 use Rattle.rulebook.specs.Sizes.{if_then_else_, lastSerial}
 use Rattle.rulebook.specs.declared.Sizes.{Sizes}
+use Rattle.rulebook.specs.declared.Stage.{Stage}
 use Rattle.rulebook.specs.declared.Slot.{Slot}
 use Rattle.rulebook.specs.declared.Task.{Task}
 use Rattle.acts.specs.declared.SlotRow.{SlotRow}
@@ -44,10 +45,11 @@ taskWords k =
     codeOf (k .stage) ∷ k .slot ∷ k .block ∷ k .number ∷ k .cell ∷ k .value ∷ k .until ∷ k .fresh ∷ k .target
     ∷ k .hand .cell ∷ k .hand .guess ∷ k .hand .lo ∷ k .hand .hi ∷ bitOf (k .hand .found) ∷ k .hand .candidate ∷ k .hand .version ∷ k .steps ∷ []
 
-unfoldable pub taskRead : List ℕ → Task
-taskRead w =
+-- the task of a row, but for its stage
+abbrev pub taskWith : Stage → List ℕ → Task
+taskWith g w =
     record {
-      stage = stageFrom (getD w 0 0);
+      stage = g;
       slot = getD w 1 0;
       block = getD w 2 0;
       number = getD w 3 0;
@@ -67,6 +69,9 @@ taskRead w =
       };
       steps = getD w 16 0;
     }
+
+unfoldable pub taskRead : List ℕ → Task
+taskRead w = taskWith (stageFrom (getD w 0 0)) w
 
 -- a task's steps stay below this
 abbrev pub mostSteps : ℕ

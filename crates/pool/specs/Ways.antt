@@ -22,7 +22,7 @@ use Rattle.pool.specs.declared.Header.{Header}
 use Rattle.pool.specs.declared.Header.the-variants as header
 use Rattle.pool.specs.Sizing.{Limits, limited-says, opens-by, room-none, room-some, block-positive}
 use Rattle.pool.specs.Codes.{codeOf, stageFrom, isCode, statusCode, statusFrom}
-use Rattle.pool.specs.Rows.{bitOf, slotWords, slotRead, slotFits, slotRowOf, taskFields, taskWords, taskRead, standsIn, worksIn, taskFits, taskRowOf}
+use Rattle.pool.specs.Rows.{bitOf, slotWords, slotRead, slotFits, slotRowOf, taskFields, taskWords, taskWith, taskRead, standsIn, worksIn, taskFits, taskRowOf}
 use Rattle.pool.specs.Header.{mark, form, limited, sizesOf, sizesIn, headed, headerFields, headerOf}
 
 -- at a return whose case was found by tests on numbers
@@ -95,22 +95,9 @@ slot-written row x s h e =
     ∙ ap (λ (l : List ℕ). (x .serial ∷ s ∷ x .block ∷ x .number ∷ []) ++ l) (drop-of-length-le row {i = 4} (omega arith))
     ∙ ap (λ (y : ℕ). x .serial ∷ y ∷ x .block ∷ x .number ∷ []) e
 
-pub task-got : (w : List ℕ) (g : Stage) → g ≡ stageFrom (getD w 0 0)
-    → (record {
-      stage = g;
-      slot = getD w 1 0;
-      block = getD w 2 0;
-      number = getD w 3 0;
-      cell = getD w 4 0;
-      value = getD w 5 0;
-      until = getD w 6 0;
-      fresh = getD w 7 0;
-      target = getD w 8 0;
-      hand = taskRead w .hand;
-      steps = getD w 16 0;
-    }) ≡ taskRead w
+pub task-got : (w : List ℕ) (g : Stage) → g ≡ stageFrom (getD w 0 0) → taskWith g w ≡ taskRead w
 unfolding taskRead
-task-got w g e = rw e
+task-got w g e = ap (λ (x : Stage). taskWith x w) e
 
 module _ (d : Sizes) (w : List ℕ) (k : Task) (e : k ≡ taskRead w) (c : ℕ) (f : c ≡ codeOf (k .stage)) where
   told : isCode (getD w 0 0) ≡ eqb c (getD w 0 0)

@@ -1,5 +1,6 @@
 // The pool's first words, and the sizes that they give.
 use super::FORM;
+use super::HEADER;
 use super::Header;
 use super::MARK;
 use super::block_words;
@@ -10,6 +11,16 @@ ghost use mathlib.Core.Path.{_≡_};
 ghost use Prim.Native.Nat.{_<_, _≤_};
 ghost use Rattle.pool.specs.Header.{limited, sizesIn, headerOf};
 
+const MOST_CELLS: u32 = 4096;
+
+const MOST_HANDLES: u32 = 256;
+
+const MOST_TASKS: u32 = 16;
+
+const MOST_BLOCKS: u32 = 256;
+
+const MOST_WORDS: usize = 4294967295;
+
 // N, H and T within their limits.
 fn limits(n: u32, h: u32, t: u32) -> bool
     ensures { λ r. ⌜ r ≡ limited n h t ⌝ }
@@ -17,19 +28,19 @@ fn limits(n: u32, h: u32, t: u32) -> bool
     if n < 1 {
         return false;
     }
-    if 4096 < n {
+    if MOST_CELLS < n {
         return false;
     }
     if h < 1 {
         return false;
     }
-    if 256 < h {
+    if MOST_HANDLES < h {
         return false;
     }
     if t < 1 {
         return false;
     }
-    t <= 16
+    t <= MOST_TASKS
 }
 
 // The sizes of a store in a pool of so many words, where it may be opened.
@@ -39,7 +50,7 @@ pub fn sizes(words: usize, n: u32, h: u32, t: u32) -> Header
     if !limits(n, h, t) {
         return Header::Bad;
     }
-    if 4294967295 < words {
+    if MOST_WORDS < words {
         return Header::Bad;
     }
     let control = control_words(h, t);
@@ -48,7 +59,7 @@ pub fn sizes(words: usize, n: u32, h: u32, t: u32) -> Header
         return Header::Bad;
     }
     let b = (words - control) / block;
-    if b < 256 {
+    if b < MOST_BLOCKS as usize {
         return Header::Good(Sizes {
             n,
             h,
@@ -56,14 +67,19 @@ pub fn sizes(words: usize, n: u32, h: u32, t: u32) -> Header
             b: b as u32,
         });
     }
-    Header::Good(Sizes { n, h, t, b: 256 })
+    Header::Good(Sizes {
+        n,
+        h,
+        t,
+        b: MOST_BLOCKS,
+    })
 }
 
 // What words 0 to 5 say, where they describe the pool.
 pub fn header_of(pool: &[u32]) -> Header
     ensures { λ r. ⌜ r ≡ headerOf (now (pool .entry)) ⌝ }
 {
-    if pool.len() < 16 {
+    if pool.len() < HEADER as usize {
         return Header::Bad;
     }
     if pool[0] != MARK {

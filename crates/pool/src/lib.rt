@@ -25,6 +25,13 @@ const MARK: u32 = 0x00494B56;
 
 const FORM: u32 = 1;
 
+// The words of the header, of a handle row and of a task row.
+const HEADER: u32 = 16;
+
+const HANDLE_ROW: u32 = 4;
+
+const TASK_ROW: u32 = 32;
+
 // What the header says: nothing that describes the pool, or the sizes of a store.
 pub enum Header {
     Bad,
@@ -42,7 +49,7 @@ fn control_words(h: u32, t: u32) -> usize
     requires { ⌜ (h ≤ mostHandles) × (t ≤ mostTasks) ⌝ }
     ensures { λ r. ⌜ (r ≡ controlWords h t) × (r ≤ 1552) ⌝ }
 {
-    wide(16 + 4 * h + 32 * t)
+    wide(HEADER + HANDLE_ROW * h + TASK_ROW * t)
 }
 
 // How many words a block takes.

@@ -1,4 +1,7 @@
 // Handle rows and task rows: where they lie, their words, and the ranges that are tested where a row is read.
+use super::HANDLE_ROW;
+use super::HEADER;
+use super::TASK_ROW;
 use super::codes::code_of;
 use super::codes::stage_from;
 use super::codes::status_code;
@@ -18,6 +21,15 @@ ghost use Rattle.rulebook.specs.Sizes.{mostHandles, mostTasks, handleRow, taskR
 ghost use Rattle.pool.specs.Places.{Spans, slotStart, taskStart};
 ghost use Rattle.pool.specs.Rows.{bitOf, slotWords, taskWords, taskFields, taskRead, standsIn, worksIn, taskFits, slotRowOf, taskRowOf};
 ghost use Rattle.pool.specs.Pool.{slotIn, taskIn, putSlot, putTask};
+
+const SLOT_WORDS: usize = HANDLE_ROW as usize;
+
+const TASK_WORDS: usize = TASK_ROW as usize;
+
+// The largest numbers that a row may hold: a serial, and one more than a task's steps.
+const LAST_SERIAL: u32 = 16777215;
+
+const MOST_STEPS: u32 = 1000000000;
 
 // ---- handle rows
 
@@ -45,7 +57,7 @@ fn read_slot(row: &[u32], d: Sizes) -> SlotRow
     if d.n < row[3] {
         return SlotRow::Bad;
     }
-    if 16777215 < row[0] {
+    if LAST_SERIAL < row[0] {
         return SlotRow::Bad;
     }
     let s = status_from(row[1]);
@@ -61,7 +73,7 @@ fn slot_start(j: u32) -> usize
     requires { ⌜ j < mostHandles ⌝ }
     ensures { λ r. ⌜ r ≡ slotStart j ⌝ }
 {
-    wide(16 + 4 * j)
+    wide(HEADER + HANDLE_ROW * j)
 }
 
 // The row of slot j.
@@ -70,7 +82,7 @@ pub fn load_slot(pool: &[u32], d: Sizes, j: u32) -> SlotRow
     ensures { λ r. ⌜ r ≡ slotIn (now (pool .entry)) d j ⌝ }
 {
     let s = slot_start(j);
-    read_slot(&pool[s..s + 4], d)
+    read_slot(&pool[s..s + SLOT_WORDS], d)
 }
 
 pub fn store_slot(pool: &mut [u32], d: Sizes, j: u32, x: Slot)
@@ -78,7 +90,7 @@ pub fn store_slot(pool: &mut [u32], d: Sizes, j: u32, x: Slot)
     ensures { λ _. ⌜ now (pool .exit) ≡ putSlot (now (pool .entry)) j x ⌝ }
 {
     let s = slot_start(j);
-    write_slot(&mut pool[s..s + 4], x);
+    write_slot(&mut pool[s..s + SLOT_WORDS], x);
 }
 
 // ---- task rows
@@ -177,7 +189,7 @@ fn works(d: Sizes, k: Task) -> bool
     if d.n <= w.cell {
         return false;
     }
-    k.steps < 1000000000
+    k.steps < MOST_STEPS
 }
 
 fn fits(d: Sizes, k: Task) -> bool
@@ -208,7 +220,7 @@ fn task_start(d: Sizes, t: u32) -> usize
     requires { ⌜ (d .h ≤ mostHandles) × (t < mostTasks) ⌝ }
     ensures { λ r. ⌜ r ≡ taskStart d t ⌝ }
 {
-    wide(16 + 4 * d.h + 32 * t)
+    wide(HEADER + HANDLE_ROW * d.h + TASK_ROW * t)
 }
 
 // The row of task t.
@@ -217,7 +229,7 @@ pub fn load_task(pool: &[u32], d: Sizes, t: u32) -> TaskRow
     ensures { λ r. ⌜ r ≡ taskIn (now (pool .entry)) d t ⌝ }
 {
     let s = task_start(d, t);
-    read_task(&pool[s..s + 32], d)
+    read_task(&pool[s..s + TASK_WORDS], d)
 }
 
 pub fn store_task(pool: &mut [u32], d: Sizes, t: u32, k: Task)
@@ -225,5 +237,5 @@ pub fn store_task(pool: &mut [u32], d: Sizes, t: u32, k: Task)
     ensures { λ _. ⌜ now (pool .exit) ≡ putTask (now (pool .entry)) d t k ⌝ }
 {
     let s = task_start(d, t);
-    write_task(&mut pool[s..s + 32], k);
+    write_task(&mut pool[s..s + TASK_WORDS], k);
 }

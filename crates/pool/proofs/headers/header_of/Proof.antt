@@ -13,6 +13,7 @@ header-of-spec =
     (λ c. search (needs, headers))
     (λ c. search (needs, headers))
     (λ c. search (needs, headers))
+    (λ c. search (needs, headers))
     (λ c κs. search (needs, headers))
     (λ c. search (needs, headers))
     (λ c. search (needs, headers))

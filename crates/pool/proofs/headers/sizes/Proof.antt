@@ -18,4 +18,5 @@ sizes-spec =
     (λ c. search (needs, sizing))
     (λ c. search (needs, sizing))
     (λ c. search (needs, sizing))
+    (λ c. search (needs, sizing))
     (λ c. search (needs, sizing)))
