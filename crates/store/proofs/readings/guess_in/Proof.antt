@@ -1,0 +1,12 @@
+use Rattle.store.specs.Ways.{readings, tests}
+use borrow.Author.Needs.{needs}
+use Rattle.store.proofs.readings.guess_in.Statement.{statement}
+use Rattle.store.proofs.readings.guess_in.Tie as tie
+
+pub guess-in-spec : {M : Type 1} → statement M
+guess-in-spec =
+    tie.close
+    (tie.spec
+    (λ c κs. search (needs, readings, tests))
+    (λ c κs. search (needs, readings, tests))
+    (λ c. search (needs, readings, tests)))

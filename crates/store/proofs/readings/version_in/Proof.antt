@@ -1,0 +1,12 @@
+use Rattle.store.specs.Ways.{readings, tests}
+use borrow.Author.Needs.{needs}
+use Rattle.store.proofs.readings.version_in.Statement.{statement}
+use Rattle.store.proofs.readings.version_in.Tie as tie
+
+pub version-in-spec : {M : Type 1} → statement M
+version-in-spec =
+    tie.close
+    (tie.spec
+    (λ c κs. search (needs, readings, tests))
+    (λ c κs. search (needs, readings, tests))
+    (λ c. search (needs, readings, tests)))
