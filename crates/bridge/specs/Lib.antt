@@ -2,3 +2,4 @@ pub mod Sound
 pub mod Searches
 pub mod Planned
 pub mod PlannedStep
+pub mod Shown

@@ -1,0 +1,132 @@
+-- What a call sees of a sound pool is the machine's state that the pool shows, wherever a call looks: its rows, and the words of its blocks.
+-- Rests on pool's view and ranges, on block's reads and on the rules.
+use Prim.Native.Nat.{_<_, _≤_, ℕ}
+use mathlib.Core.Bool.{false≢true, true, true≢false}
+use mathlib.Core.List.{List}
+use mathlib.Core.Path.{_∙_, _≡_, ap, refl, subst, sym}
+use native.Mathlib.Omega.{arith}
+use lib.ListN.{length}
+use borrow.Author.Tests.{eq-eqb, le-leb, lt-ltb}
+use Rattle.rulebook.specs.declared.Sizes.{Sizes}
+use Rattle.rulebook.specs.declared.Status.{Status}
+use Rattle.acts.specs.Sight.{Sight, sightOf}
+use Rattle.block.specs.Reads.{cell-reads, entry-reads, length-reads, version-reads}
+use Rattle.block.specs.Sound.{blockOf}
+use Rattle.pool.specs.Codes.{isCode}
+use Rattle.pool.specs.Header.{headerOf}
+use Rattle.pool.specs.Places.{Spans, slotPart, taskPart}
+use Rattle.pool.specs.Pool.{sight, slotIn, taskIn, viewOf}
+use Rattle.pool.specs.Rows.{slotFits, slotRead, slotRowOf, standsIn, taskFits, taskRead, taskRowOf, worksIn}
+use Rattle.pool.specs.Sizing.{header-spans}
+use Rattle.pool.specs.View.{view-block-at, view-blocks, view-slot-at, view-slots, view-task-at, view-tasks}
+use Rattle.rulebook.specs.Lists.{listTo-length}
+use Rattle.rulebook.specs.State.{Block, State, blockAt, cellAt, entryAt, isLive, logAt, slotAt, stood, taskAt}
+use Rattle.rulebook.specs.Tests.{by-test}
+use Rattle.rules.specs.Facts.{live-stood}
+use Rattle.rules.specs.Paced.{paced-small}
+use Rattle.theorems.specs.Invariant.Shape.{Shape, every-listTo}
+use Rattle.bridge.specs.Sound.{Sound}
+use Rattle.pool.specs.Keeps.{block-sized}
+use Rattle.acts.specs.declared.SlotRow.the-variants as slotrow
+use Rattle.acts.specs.declared.TaskRow.the-variants as taskrow
+use Rattle.block.specs.declared.Looked.the-variants as looked
+use Rattle.block.specs.declared.Probed.the-variants as probed
+use Rattle.pool.specs.declared.Header.the-variants as header
+use Rattle.rulebook.specs.declared.Status.the-variants as status
+
+-- when a sight shows a state: no row is bad, nor V or a cell of any block; nor a log of a block on which a live handle stands
+pub record Shows (e : Sight) (s : State) : Type 0 where
+  pub sizes : e .sizes ≡ s .sizes
+  pub slot : (j : ℕ) → j < s .sizes .h → e .slot j ≡ slotrow.Row (slotAt s j)
+  pub task : (t : ℕ) → t < s .sizes .t → e .task t ≡ taskrow.Row (taskAt s t)
+  pub version : (b : ℕ) → b < s .sizes .b → e .version b ≡ looked.Word (blockAt s b .version)
+  pub cell : (b i : ℕ) → b < s .sizes .b → i < s .sizes .n → e .cell b i ≡ looked.Word (cellAt (blockAt s b) i)
+  pub log : (b i : ℕ) → b < s .sizes .b → i < s .sizes .n → stood s b ≡ true → e .log b i ≡ looked.Word (length (logAt (blockAt s b) i))
+  pub entry : (b i j : ℕ) → b < s .sizes .b → i < s .sizes .n → stood s b ≡ true → j < length (logAt (blockAt s b) i) → e .entry b i j ≡ probed.Found (entryAt (logAt (blockAt s b) i) j)
+
+-- the machine's state shows itself
+pub shows-itself : (s : State) → Shows (sightOf s) s
+unfolding sightOf
+shows-itself s =
+    record { sizes = refl; slot = λ j h. refl; task = λ t h. refl; version = λ b h. refl; cell = λ b i h q. refl; log = λ b i h q l. refl; entry = λ b i j h q l m. refl }
+
+-- a handle is live, or its status is another
+pub is-live : (x : Status) → isLive x ≡ true → x ≡ status.Live
+is-live status.Free h = absurd (false≢true h)
+is-live status.Reserved h = absurd (false≢true h)
+is-live status.Live h = refl
+
+module _ (d : Sizes) (p : List ℕ) where
+  abbrev s : State
+  s = viewOf d p
+
+  -- ---- the shape of the state that a pool shows
+
+  pub view-shape : headerOf p ≡ header.Good d → Shape (viewOf d p)
+  unfolding viewOf blockOf
+  view-shape h =
+      let g = header-spans p d h in
+      record {
+        slots-len = view-slots d p;
+        tasks-len = view-tasks d p;
+        blocks-len = view-blocks d p;
+        wide = every-listTo (d .b) _ (λ k. record { wide-cells = listTo-length (d .n) _; wide-logs = listTo-length (d .n) _ });
+        some-cells = λ _. g .someCells;
+        few-slots = g .handles;
+      }
+
+  module _ (S : Sound d p) where
+    pub spans : Spans d p
+    spans = header-spans p d (S .header)
+
+    pub sound-shape : Shape (viewOf d p)
+    sound-shape = view-shape (S .header)
+
+    -- ---- rows
+
+    slot-within : (j : ℕ) → (slotAt s j .block < d .b) × (slotAt s j .number ≤ d .n)
+    unfolding viewOf
+    slot-within j =
+        by-test (isLive (slotAt s j .status))
+        (λ l. let o = live-stood s (S .rules) j (is-live _ l) in (o .in-b, o .at-most-n))
+        (λ l. let o = S .paced .slots j .nowhere (λ e. true≢false (sym (ap isLive e) ∙ l)) in (omega (arith, o .0, spans .someBlocks), omega (arith, o .1)))
+
+    slot-fits : (j : ℕ) → slotFits d (slotAt s j) ≡ true
+    unfolding slotFits
+    slot-fits j = rw (lt-ltb _ _ (slot-within j .0), le-leb _ _ (slot-within j .1), le-leb _ _ (S .paced .slots j .not-above))
+
+    slot-shown : (j : ℕ) → j < d .h → slotIn p d j ≡ slotrow.Row (slotAt s j)
+    unfolding slotIn slotRowOf
+    slot-shown j h =
+        let e = view-slot-at d p j h in
+        let f : slotFits d (slotRead (slotPart p j)) ≡ true = ap (slotFits d) (sym e) ∙ slot-fits j in
+        rw (lt-ltb _ _ (S .statuses j h), f) (ap slotrow.Row (sym e))
+
+    task-fits : (t : ℕ) → taskFits d (taskAt s t) ≡ true
+    unfolding taskFits standsIn worksIn viewOf
+    task-fits t =
+        let r = S .paced .tasks t in
+        rw (lt-ltb _ _ (r .slot-below), lt-ltb _ _ (r .block-below), le-leb _ _ (r .number-within), lt-ltb _ _ (r .cell-below), le-leb _ _ (r .until-within), lt-ltb _ _ (r .fresh-below), lt-ltb _ _ (r .target-below), lt-ltb _ _ (r .hand-below), lt-ltb _ _ (paced-small s (S .paced) (spans .cells) t))
+
+    task-shown : (t : ℕ) → t < d .t → taskIn p d t ≡ taskrow.Row (taskAt s t)
+    unfolding taskIn taskRowOf isCode taskRead
+    task-shown t h =
+        let e = view-task-at d p t h in
+        let f : taskFits d (taskRead (taskPart p d t)) ≡ true = ap (taskFits d) (sym e) ∙ task-fits t in
+        rw (eq-eqb _ _ (S .codes t h), f) (ap taskrow.Row (sym e))
+
+    -- ---- blocks
+
+    pub sight-shows : Shows (sight p d) (viewOf d p)
+    unfolding sight viewOf
+    sight-shows = record {
+      sizes = refl;
+      slot = slot-shown;
+      task = task-shown;
+      version = λ b h. version-reads (block-sized spans b h) ∙ ap (λ (x : Block). looked.Word (x .version)) (sym (view-block-at d p b h));
+      cell = λ b i h q. cell-reads i q (block-sized spans b h) ∙ ap (λ (x : Block). looked.Word (cellAt x i)) (sym (view-block-at d p b h));
+      log = λ b i h q l. length-reads i q (S .stood-laid b h l) ∙ ap (λ (x : Block). looked.Word (length (logAt x i))) (sym (view-block-at d p b h));
+      entry = λ b i j h q l m.
+          let e = view-block-at d p b h in
+          entry-reads i q (S .stood-laid b h l) j (subst (λ (x : Block). j < length (logAt x i)) e m) ∙ ap (λ (x : Block). probed.Found (entryAt (logAt x i) j)) (sym e);
+    }
