@@ -3,3 +3,4 @@ pub mod Searches
 pub mod Planned
 pub mod PlannedStep
 pub mod Shown
+pub mod Alike
