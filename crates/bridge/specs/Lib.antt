@@ -4,3 +4,4 @@ pub mod Planned
 pub mod PlannedStep
 pub mod Shown
 pub mod Alike
+pub mod Looking

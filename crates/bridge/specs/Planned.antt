@@ -73,7 +73,7 @@ module _ (s : State) (sh : Shape s) where
   unfolding userIn namesAt naming sightOf
   user-good j = first-good (λ (t : ℕ). foundIf (names (taskAt s t .stage) && eqb (taskAt s t .slot) j) t) (s .sizes .t) (λ t. good-if (names (taskAt s t .stage) && eqb (taskAt s t .slot) j) t)
 
-  stander-good : (b : ℕ) → isBad (standerIn (sightOf s) b) ≡ false
+  pub stander-good : (b : ℕ) → isBad (standerIn (sightOf s) b) ≡ false
   unfolding standerIn standsAt standing sightOf
   stander-good b = first-good (λ (j : ℕ). foundIf (isLive (slotAt s j .status) && eqb (slotAt s j .block) b) j) (s .sizes .h) (λ j. good-if (isLive (slotAt s j .status) && eqb (slotAt s j .block) b) j)
 
