@@ -5,3 +5,4 @@ pub mod PlannedStep
 pub mod Shown
 pub mod Alike
 pub mod Looking
+pub mod Doable
