@@ -41,6 +41,11 @@ use Rattle.rulebook.specs.declared.Reading.the-variants as reading
 use Rattle.rulebook.specs.declared.Reply.the-variants as reply
 use Rattle.acts.specs.declared.Touch.the-variants as touch
 
+-- what holds of every slot that may be reserved, and of none
+pub vacant-case : (s : State) → Shape s → (P : Found → Type 0) → ((j : ℕ) → j < s .sizes .h → P (found.At j)) → P found.None → P (vacantIn (sightOf s))
+vacant-case s sh P some absent =
+    subst⁻¹ P (vacant-is s sh) (if-case P (ltb (freeSlot s) (s .sizes .h)) (λ q. some (freeSlot s) (ltb-true _ _ q)) (λ q. absent))
+
 module _ {e : Sight} {s : State} (W : Shows e s) (sh : Shape s) where
   abbrev f : Sight
   f = sightOf s
@@ -90,18 +95,13 @@ module _ {e : Sight} {s : State} (W : Shows e s) (sh : Shape s) where
   start-alike : (t : ℕ) {a b : Act} → a ≡ b → (if not (eqb (readyIn e t) 0) then refused (readyIn e t) else a) ≡ (if not (eqb (readyIn f t) 0) then refused (readyIn f t) else b)
   start-alike t h = ap₂ (λ (n : ℕ) (x : Act). if not (eqb n 0) then refused n else x) (ready-alike t) h
 
-  -- what holds of every slot that may be reserved, and of none
-  pub vacant-case : (P : Found → Type 0) → ((j : ℕ) → j < s .sizes .h → P (found.At j)) → P found.None → P (vacantIn (sightOf s))
-  vacant-case P some absent =
-      subst⁻¹ P (vacant-is s sh) (if-case P (ltb (freeSlot s) (s .sizes .h)) (λ q. some (freeSlot s) (ltb-true _ _ q)) (λ q. absent))
-
   module _ (t h i v : ℕ) where
     pub new-alike : planNew e t v ≡ planNew (sightOf s) t v
     unfolding planNew newOn
     new-alike = start-alike t (ap (λ (x : Found). newOn x e t v) vacant-alike ∙ on)
       where
         on : newOn (vacantIn f) e t v ≡ newOn (vacantIn f) f t v
-        on = unfold sightOf newOn in vacant-case (λ (x : Found). newOn x e t v ≡ newOn x f t v) (λ j l. ap (λ (x : SlotRow). reservesFor x j t (maker v j)) (W .slot j l)) refl
+        on = unfold sightOf newOn in vacant-case s sh (λ (x : Found). newOn x e t v ≡ newOn x f t v) (λ j l. ap (λ (x : SlotRow). reservesFor x j t (maker v j)) (W .slot j l)) refl
 
     get-on : (x : Live) → getOn x e t h i ≡ getOn x f t h i
     unfolding getOn sightOf
@@ -123,7 +123,7 @@ module _ {e : Sight} {s : State} (W : Shows e s) (sh : Shape s) where
 
     set-at : (y : Slot) → setAt (vacantIn f) e y t h i v ≡ setAt (vacantIn f) f y t h i v
     unfolding setAt sightOf
-    set-at y = vacant-case (λ (x : Found). setAt x e y t h i v ≡ setAt x f y t h i v) (λ j l. ap (λ (x : SlotRow). reservesFor x j t (begunOn y h stage.Exchange i v 0 j)) (W .slot j l)) refl
+    set-at y = vacant-case s sh (λ (x : Found). setAt x e y t h i v ≡ setAt x f y t h i v) (λ j l. ap (λ (x : SlotRow). reservesFor x j t (begunOn y h stage.Exchange i v 0 j)) (W .slot j l)) refl
 
     set-on : (x : Live) → setOn x e t h i v ≡ setOn x f t h i v
     unfolding setOn sightOf

@@ -6,3 +6,4 @@ pub mod Shown
 pub mod Alike
 pub mod Looking
 pub mod Doable
+pub mod Starting
