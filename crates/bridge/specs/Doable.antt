@@ -13,6 +13,7 @@ use Rattle.acts.specs.declared.Act.{Act}
 use Rattle.acts.specs.declared.SlotChange.{SlotChange}
 use Rattle.acts.specs.declared.TaskChange.{TaskChange}
 use Rattle.acts.specs.declared.Touch.{Touch}
+use Rattle.rulebook.specs.declared.Entry.{Entry}
 use Rattle.rulebook.specs.declared.Reply.{Reply}
 use Rattle.rulebook.specs.declared.Sizes.{Sizes}
 use Rattle.rulebook.specs.declared.Slot.{Slot}
@@ -77,6 +78,10 @@ module _ (d : Sizes) (p : List ℕ) where
     pub seats : Seats (a .touch) (a .slot)
     pub others : (u : ℕ) → taskNamed (a .task) u ≡ false → fills (taskAt (viewOf d p) u .stage) ≡ true → FillingAt (a .touch) (taskAt (viewOf d p) u)
     pub turns : Turns (a .touch) (a .task)
+
+-- a touch that appends no entry asks for no room
+pub no-append : {d : Sizes} {p : List ℕ} {x : Touch} → ((k i : ℕ) (e : Entry) → x ≡ touch.Append k i e → ⊥) → Appendable d p x
+no-append other = record { laid = λ k i e q. absurd (other k i e q); less = λ k i e q. absurd (other k i e q) }
 
 -- ---- the codes in the rows
 

@@ -7,3 +7,4 @@ pub mod Alike
 pub mod Looking
 pub mod Doable
 pub mod Starting
+pub mod Touching

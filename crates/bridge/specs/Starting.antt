@@ -13,7 +13,6 @@ use Rattle.acts.specs.declared.Live.{Live}
 use Rattle.acts.specs.declared.SlotChange.{SlotChange}
 use Rattle.acts.specs.declared.TaskChange.{TaskChange}
 use Rattle.pool.specs.declared.Header.{Header}
-use Rattle.rulebook.specs.declared.Entry.{Entry}
 use Rattle.rulebook.specs.declared.Reply.{Reply}
 use Rattle.rulebook.specs.declared.Sizes.{Sizes}
 use Rattle.rulebook.specs.declared.Slot.{Slot}
@@ -21,7 +20,6 @@ use Rattle.rulebook.specs.declared.Task.{Task}
 use Rattle.acts.specs.Acted.{acted}
 use Rattle.acts.specs.Plans.{answers, ends, getOn, goes, liveIn, liveRow, newOn, pageOn, planGet, planNew, planPage, planRelease, planSet, readyIn, refused, releaseAt, releaseOn, reservesFor, setAt, setOn, userIn, vacantIn}
 use Rattle.acts.specs.Sight.{Sight, sightOf}
-use Rattle.pool.specs.Acts.{Appendable}
 use Rattle.pool.specs.Calls.{calledIn, releaseIn, startGetIn, startNewIn, startPageIn, startSetIn}
 use Rattle.pool.specs.Header.{headerOf}
 use Rattle.pool.specs.Pool.{appliedIn, sight, slotNear, taskNear, touchNear, touchedIn, viewOf}
@@ -32,7 +30,7 @@ use Rattle.rulebook.specs.State.{State, fills, isLive, slotAt}
 use Rattle.rulebook.specs.Tests.{by-test, if-case}
 use Rattle.theorems.specs.Invariant.Shape.{Shape}
 use Rattle.bridge.specs.Alike.{get-alike, new-alike, page-alike, release-alike, set-alike, vacant-case}
-use Rattle.bridge.specs.Doable.{Bridged, Doable, Seats, Turns, bridged-act}
+use Rattle.bridge.specs.Doable.{Bridged, Doable, Seats, Turns, bridged-act, no-append}
 use Rattle.bridge.specs.Planned.{planned-get, planned-new, planned-page, planned-release, planned-set}
 use Rattle.bridge.specs.Shown.{Shows, sight-shows, sound-shape}
 use Rattle.bridge.specs.Sound.{Sound}
@@ -42,13 +40,6 @@ use Rattle.acts.specs.declared.TaskChange.the-variants as task
 use Rattle.acts.specs.declared.Found.the-variants as found
 use Rattle.acts.specs.declared.Live.the-variants as live
 use Rattle.rulebook.specs.declared.Stage.the-variants as stage
-
--- an entry is appended by no other touch
-pub nothing-room : (d : Sizes) (p : List ℕ) → Appendable d p touch.Nothing
-nothing-room d p = record { laid = λ k i e q. absurd (other k i e q); less = λ k i e q. absurd (other k i e q) }
-  where
-    other : (k i : ℕ) (e : Entry) → touch.Nothing ≡ touch.Append k i e → ⊥
-    other k i e q = let z : _≡_ {A = ℕ} 0 1 = cc in omega arith
 
 module _ {d : Sizes} {p : List ℕ} (S : Sound d p) where
   abbrev s : State
@@ -62,7 +53,7 @@ module _ {d : Sizes} {p : List ℕ} (S : Sound d p) where
   pub quiet-act : (c : SlotChange) (e : TaskChange) (r : Reply) → slotNear d c ≡ true → taskNear d e ≡ true → Seats d p touch.Nothing c → Turns d p touch.Nothing e → Doable d p (record { touch = touch.Nothing; slot = c; task = e; reply = r })
   unfolding touchedIn touchNear
   quiet-act c e r x y seats turns =
-      record { reach = record { touch = refl; slot = x; task = y }; done = refl; room = nothing-room d p; stands = S .stood-laid; seats = seats; others = λ u _ l. S .filling-laid u l; turns = turns }
+      record { reach = record { touch = refl; slot = x; task = y }; done = refl; room = no-append (λ k i y o. let z : _≡_ {A = ℕ} 0 1 = cc in omega arith); stands = S .stood-laid; seats = seats; others = λ u _ l. S .filling-laid u l; turns = turns }
 
   pub answers-act : (r : Reply) → Doable d p (answers r)
   unfolding slotNear taskNear

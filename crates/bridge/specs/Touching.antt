@@ -1,0 +1,103 @@
+-- What is done to one block of a sound pool: that it is done, and which words the block then has.
+-- Rests on Doable and on block's laws of each change.
+use Prim.Native.Nat.{_+_, _<_, _≤_, suc, zero, ℕ}
+use mathlib.Core.Bool.{true}
+use mathlib.Core.List.{List}
+use mathlib.Core.Path.{_∙_, _≡_, ap, refl, sym}
+use native.Mathlib.Omega.{arith}
+use lib.Dec.{eqb}
+use lib.ListN.{length}
+use borrow.Author.Tests.{lt-ltb}
+use Rattle.acts.specs.declared.Touch.{Touch}
+use Rattle.rulebook.specs.declared.Entry.{Entry}
+use Rattle.rulebook.specs.declared.Sizes.{Sizes}
+use Rattle.block.specs.Appends.{append-done}
+use Rattle.block.specs.Layout.{Sized}
+use Rattle.block.specs.Sound.{Filling, Laid, blockOf, entriesIn}
+use Rattle.block.specs.Words.{appendIn, exchangeIn, fillIn, takeIn, writeIn}
+use Rattle.block.specs.Writes.{append-long, exchange-first, exchange-long, fill-done, fill-long, take-done, take-long, write-done, write-long}
+use Rattle.pool.specs.Acts.{Appendable, blockNamed}
+use Rattle.pool.specs.Keeps.{block-length, block-own, block-sized}
+use Rattle.pool.specs.Places.{Spans, blockPart}
+use Rattle.pool.specs.Pool.{putBlock, putDone, raised, touchNear, touchedIn, viewOf}
+use Rattle.pool.specs.View.{view-block-at}
+use Rattle.rulebook.specs.State.{Block, blockAt, logAt}
+use Rattle.theorems.specs.Prices.Budget.{passed, passed-next, passed-total, sumTo}
+use Rattle.bridge.specs.Doable.{no-append, wordsAfter}
+use Rattle.theorems.specs.Terms.{entries}
+use Rattle.acts.specs.declared.Touch.the-variants as touch
+use Rattle.block.specs.Sound as blocks
+
+-- a touch that is done on block b, which then has the words z
+pub record Touches (d : Sizes) (p : List ℕ) (x : Touch) (b : ℕ) (z : List ℕ) : Type 0 where
+  pub near : touchNear d x ≡ true
+  pub named : (k : ℕ) → blockNamed x k ≡ eqb k b
+  pub done : touchedIn p d x .1 ≡ true
+  pub room : Appendable d p x
+  pub own : wordsAfter d p x b ≡ z
+
+-- a block's logs have no more entries than the machine's block has
+entries-most : (n : ℕ) (b : Block) → entriesIn n b ≤ entries (b .logs)
+unfolding entriesIn
+entries-most n b = rw (sums n) (passed-total b n)
+  where
+    sums : (m : ℕ) → blocks.sumTo m (λ (i : ℕ). length (logAt b i)) ≡ passed b m
+    sums zero = unfold sumTo in refl
+    sums (suc m) = let h = sums m in let z = passed-next b m in let y : passed b (suc m) ≡ passed b (m + 1) = ap (λ (x : ℕ). passed b x) (omega arith) in omega arith
+
+module _ {d : Sizes} {p : List ℕ} (g : Spans d p) (b : ℕ) (h : b < d .b) where
+  abbrev n : ℕ
+  n = d .n
+
+  abbrev w : List ℕ
+  w = blockPart p d b
+
+  sized : Sized (d .n) (blockPart p d b)
+  sized = block-sized g b h
+
+  -- the words that are put there are there
+  put : (z : List ℕ) → length z ≡ length w → blockPart (putBlock p d b z) d b ≡ z
+  put z l = block-own g b h z (l ∙ block-length g b h)
+
+  pub exchange-touches : (L : ℕ) → blockAt (viewOf d p) b .version ≡ L → L ≤ d .n
+      → Touches d p (touch.Exchange b L) b (exchangeIn (d .n) (blockPart p d b) L .0) × (Laid (d .n) (blockPart p d b) → Laid (d .n) (exchangeIn (d .n) (blockPart p d b) L .0))
+  unfolding touchedIn putDone touchNear blockNamed
+  exchange-touches L e q =
+      let r = exchange-first sized L (ap (λ (x : Block). x .version) (sym (view-block-at d p b h)) ∙ e) q in
+      (record { near = lt-ltb _ _ h; named = λ k. refl; done = ap raised (r .0); room = no-append (λ k i y o. let z : _≡_ {A = ℕ} 0 1 = cc in omega arith); own = put _ (exchange-long n w L) }, r .1 .laid)
+
+  pub write-touches : (i v : ℕ) → i < d .n
+      → Touches d p (touch.Write b i v) b (writeIn (d .n) (blockPart p d b) i v .0) × (Laid (d .n) (blockPart p d b) → Laid (d .n) (writeIn (d .n) (blockPart p d b) i v .0))
+  unfolding touchedIn putDone touchNear blockNamed
+  write-touches i v q =
+      let r = write-done sized i v q in
+      (record { near = lt-ltb _ _ h; named = λ k. refl; done = r .0; room = no-append (λ k j y o. let z : _≡_ {A = ℕ} 0 1 = cc in omega arith); own = put _ (write-long n w i v) }, r .1 .laid)
+
+  pub take-touches : Touches d p (touch.Take b) b (takeIn (d .n) (blockPart p d b) .0) × Filling 0 (d .n) (takeIn (d .n) (blockPart p d b) .0)
+  unfolding touchedIn putDone touchNear blockNamed
+  take-touches =
+      let r = take-done sized in
+      (record { near = lt-ltb _ _ h; named = λ k. refl; done = r .0; room = no-append (λ k j y o. let z : _≡_ {A = ℕ} 0 1 = cc in omega arith); own = put _ (take-long n w) }, r .2)
+
+  pub fill-touches : (i v : ℕ) → i < d .n → Touches d p (touch.Fill b i v) b (fillIn (d .n) (blockPart p d b) i v .0)
+  unfolding touchedIn putDone touchNear blockNamed
+  fill-touches i v q =
+      let r = fill-done sized i v q in
+      record { near = lt-ltb _ _ h; named = λ k. refl; done = r .0; room = no-append (λ k j y o. let z : _≡_ {A = ℕ} 0 1 = cc in omega arith); own = put _ (fill-long n w i v) }
+
+  -- an append finds room in a block that is laid out and has fewer than N entries
+  module _ (L : Laid (d .n) (blockPart p d b)) (less : entries (blockAt (viewOf d p) b .logs) < d .n) (i : ℕ) (e : Entry) (q : i < d .n) where
+    fewer : entriesIn n (blockOf n w) < n
+    fewer = let z = entries-most n (blockAt (viewOf d p) b) in rw (← view-block-at d p b h) (omega arith)
+
+    room-for : Appendable d p (touch.Append b i e)
+    room-for = record {
+      laid = λ k j y o. let z : b ≡ k = cc in rw (← z) L;
+      less = λ k j y o. let z : b ≡ k = cc in rw (← z) fewer;
+    }
+
+    pub append-touches : Touches d p (touch.Append b i e) b (appendIn (d .n) (blockPart p d b) i (e .version) (e .old) .0) × Laid (d .n) (appendIn (d .n) (blockPart p d b) i (e .version) (e .old) .0)
+    unfolding touchedIn putDone touchNear blockNamed
+    append-touches =
+        let r = append-done L i (e .version) (e .old) q fewer in
+        (record { near = lt-ltb _ _ h; named = λ k. refl; done = r .0; room = room-for; own = put _ (append-long n w i (e .version) (e .old)) }, r .1 .laid L)
