@@ -8,3 +8,5 @@ pub mod Looking
 pub mod Doable
 pub mod Starting
 pub mod Touching
+pub mod Working
+pub mod Stepping
