@@ -14,7 +14,6 @@ use Rattle.acts.specs.declared.SlotChange.{SlotChange}
 use Rattle.acts.specs.declared.TaskChange.{TaskChange}
 use Rattle.acts.specs.declared.Touch.{Touch}
 use Rattle.rulebook.specs.declared.Entry.{Entry}
-use Rattle.rulebook.specs.declared.Reply.{Reply}
 use Rattle.rulebook.specs.declared.Sizes.{Sizes}
 use Rattle.rulebook.specs.declared.Slot.{Slot}
 use Rattle.rulebook.specs.declared.Status.{Status}
@@ -37,18 +36,13 @@ use Rattle.rules.specs.Facts.{filled-block}
 use Rattle.rules.specs.Kept.{rules-call}
 use Rattle.rules.specs.Paced.{Paced}
 use Rattle.rules.specs.Rules.{Rules}
+use Rattle.bridge.specs.Asked.{Bridged}
 use Rattle.bridge.specs.Shown.{sound-shape, spans}
 use Rattle.bridge.specs.Sound.{Sound, filledTo}
 use Rattle.acts.specs.declared.Touch.the-variants as touch
 use Rattle.acts.specs.declared.SlotChange.the-variants as slot
 use Rattle.acts.specs.declared.TaskChange.the-variants as task
 use Rattle.rulebook.specs.declared.Status.the-variants as status
-
--- a call on words has done the machine's: the pool shows the next state, the answer is the same, and the pool is sound
-pub record Bridged (d : Sizes) (z : List ℕ × Reply) (r : Result) : Type 0 where
-  pub state : viewOf d (z .0) ≡ r .0
-  pub reply : z .1 ≡ r .1
-  pub sound : Sound d (z .0)
 
 module _ (d : Sizes) (p : List ℕ) where
   -- the words of block k after the touch x

@@ -1,4 +1,5 @@
 pub mod Sound
+pub mod Asked
 pub mod Searches
 pub mod Planned
 pub mod PlannedStep
@@ -10,3 +11,6 @@ pub mod Starting
 pub mod Touching
 pub mod Working
 pub mod Stepping
+pub mod Opening
+pub mod Bridge
+pub mod Never

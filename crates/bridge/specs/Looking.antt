@@ -11,12 +11,16 @@ use borrow.Author.Tests.{eqb-true, leb-false, leb-true}
 use Rattle.acts.specs.declared.Counted.{Counted}
 use Rattle.acts.specs.declared.Found.{Found}
 use Rattle.block.specs.declared.Looked.{Looked}
+use Rattle.pool.specs.declared.Header.{Header}
 use Rattle.rulebook.specs.declared.Reply.{Reply}
 use Rattle.rulebook.specs.declared.Sizes.{Sizes}
 use Rattle.rulebook.specs.declared.Slot.{Slot}
 use Rattle.acts.specs.Looks.{countOf, liveAt, livesAt, plus, reports, seesCell, seesEntry, seesLog, seesReport, seesRow, seesTask, seesUnder, seesVersion, shows, showsEntry, unseen, unseenIn}
 use Rattle.acts.specs.Plans.{foundIf, standerIn}
 use Rattle.acts.specs.Sight.{Sight, sightOf}
+use Rattle.pool.specs.Calls.{lookCellIn, lookEntryIn, lookLogIn, lookTaskIn, lookVersionIn, reportIn, seenIn}
+use Rattle.pool.specs.Header.{headerOf}
+use Rattle.pool.specs.Pool.{sight, viewOf}
 use Rattle.rulebook.specs.History.{one}
 use Rattle.rulebook.specs.Machine.{lookCell, lookEntry, lookLog, lookTask, lookVersion, report}
 use Rattle.rulebook.specs.Sizes.{if_then_else_}
@@ -27,7 +31,8 @@ use Rattle.theorems.specs.Invariant.Shape.{Shape}
 use Rattle.bridge.specs.Alike.{stander-alike}
 use Rattle.bridge.specs.Planned.{found-case, stander-good, stander-is}
 use Rattle.bridge.specs.Searches.{good-if, isBad, isNone}
-use Rattle.bridge.specs.Shown.{Shows, is-live}
+use Rattle.bridge.specs.Shown.{Shows, is-live, sight-shows, sound-shape}
+use Rattle.bridge.specs.Sound.{Sound}
 use Rattle.acts.specs.declared.Found.the-variants as found
 use Rattle.acts.specs.declared.Counted.the-variants as counted
 use Rattle.block.specs.declared.Looked.the-variants as looked
@@ -151,3 +156,40 @@ module _ {e : Sight} {s : State} (W : Shows e s) (sh : Shape s) (r : Rules s) wh
   unfolding seesReport report reports
   report-sees =
       ap (λ (z : Sizes). reports (countOf (livesAt e) (z .h)) (countOf (standerIn e) (z .b))) (W .sizes) ∙ ap₂ reports lives-are standers-are
+
+-- ---- on a sound pool
+
+module _ {d : Sizes} {p : List ℕ} (S : Sound d p) where
+  seen : (x : Sight → Reply) (r : Reply) → x (sight p d) ≡ r → seenIn (headerOf p) p x ≡ r
+  unfolding seenIn
+  seen x r e = ap (λ (z : Header). seenIn z p x) (S .header) ∙ e
+
+  W : Shows (sight p d) (viewOf d p)
+  W = sight-shows d p S
+
+  sh : Shape (viewOf d p)
+  sh = sound-shape d p S
+
+  pub look-version : (b : ℕ) → lookVersionIn p b ≡ lookVersion (viewOf d p) b
+  unfolding lookVersionIn
+  look-version b = seen _ _ (version-sees W sh (S .rules) b)
+
+  pub look-cell : (b i : ℕ) → lookCellIn p b i ≡ lookCell (viewOf d p) b i
+  unfolding lookCellIn
+  look-cell b i = seen _ _ (cell-sees W sh (S .rules) b i)
+
+  pub look-log : (b i : ℕ) → lookLogIn p b i ≡ lookLog (viewOf d p) b i
+  unfolding lookLogIn
+  look-log b i = seen _ _ (log-sees W sh (S .rules) b i)
+
+  pub look-entry : (b i j : ℕ) → lookEntryIn p b i j ≡ lookEntry (viewOf d p) b i j
+  unfolding lookEntryIn
+  look-entry b i j = seen _ _ (entry-sees W sh (S .rules) b i j)
+
+  pub look-task : (t : ℕ) → lookTaskIn p t ≡ lookTask (viewOf d p) t
+  unfolding lookTaskIn
+  look-task t = seen _ _ (task-sees W sh (S .rules) t)
+
+  pub the-report : reportIn p ≡ report (viewOf d p)
+  unfolding reportIn
+  the-report = seen _ _ (report-sees W sh (S .rules))

@@ -30,7 +30,8 @@ use Rattle.rulebook.specs.State.{State, fills, isLive, slotAt}
 use Rattle.rulebook.specs.Tests.{by-test, if-case}
 use Rattle.theorems.specs.Invariant.Shape.{Shape}
 use Rattle.bridge.specs.Alike.{get-alike, new-alike, page-alike, release-alike, set-alike, vacant-case}
-use Rattle.bridge.specs.Doable.{Bridged, Doable, Seats, Turns, bridged-act, no-append}
+use Rattle.bridge.specs.Asked.{Bridged}
+use Rattle.bridge.specs.Doable.{Doable, Seats, Turns, bridged-act, no-append}
 use Rattle.bridge.specs.Planned.{planned-get, planned-new, planned-page, planned-release, planned-set}
 use Rattle.bridge.specs.Shown.{Shows, sight-shows, sound-shape}
 use Rattle.bridge.specs.Sound.{Sound}

@@ -29,7 +29,8 @@ use Rattle.rules.specs.Facts.{a-copy, a-get, a-page, append-fits, doing-gets, r
 use Rattle.rules.specs.Paced.{TaskRange}
 use Rattle.theorems.specs.Invariant.Facts.{no-filler, no-stander, not-held}
 use Rattle.bridge.specs.Alike.{step-alike}
-use Rattle.bridge.specs.Doable.{Bridged, Doable}
+use Rattle.bridge.specs.Asked.{Bridged}
+use Rattle.bridge.specs.Doable.{Doable}
 use Rattle.bridge.specs.Looking.{stander-of}
 use Rattle.bridge.specs.Planned.{free-is}
 use Rattle.bridge.specs.PlannedStep.{Searching, planned-step}
