@@ -41,6 +41,10 @@ use Rattle.rulebook.specs.declared.Reading.the-variants as reading
 use Rattle.rulebook.specs.declared.Reply.the-variants as reply
 use Rattle.acts.specs.declared.Touch.the-variants as touch
 
+-- a live handle stands on the block of the handle that a task names
+pub named-on : (s : State) → Rules s → (t : ℕ) → names (taskAt s t .stage) ≡ true → stood s (taskAt s t .block) ≡ true
+named-on s r t n = let l = r .valid .named-live t n in stood-by s (taskAt s t .slot) (taskAt s t .block) (l .0) (l .1)
+
 -- what holds of every slot that may be reserved, and of none
 pub vacant-case : (s : State) → Shape s → (P : Found → Type 0) → ((j : ℕ) → j < s .sizes .h → P (found.At j)) → P found.None → P (vacantIn (sightOf s))
 vacant-case s sh P some absent =
@@ -153,19 +157,15 @@ module _ {e : Sight} {s : State} (W : Shows e s) (sh : Shape s) where
     abbrev range : TaskRange (s .sizes) (taskAt s t)
     range = p .tasks t
 
-    -- the block of the handle that it names
-    named-on : names (taskAt s t .stage) ≡ true → stood s (taskAt s t .block) ≡ true
-    named-on n = let l = r .valid .named-live t n in stood-by s (taskAt s t .slot) (taskAt s t .block) (l .0) (l .1)
-
     read-alike : (x : Reading) {g : Stage} → Doing x g → taskAt s t .stage ≡ g → readIn x e k ≡ readIn x f k
     unfolding readIn sightOf counted
     read-alike reading.Guess o q = ap (λ (z : Looked). readGuess z (k .hand)) (W .cell _ _ (range .block-below) (range .hand-below))
     read-alike reading.Version o q = ap (λ (z : Looked). readVersion z (k .number) (k .hand)) (W .version _ (range .block-below))
     read-alike reading.Length o q =
-        ap (λ (z : Looked). readLength z (k .hand)) (W .log _ _ (range .block-below) (range .hand-below) (named-on (ap names q ∙ doing-names o)))
+        ap (λ (z : Looked). readLength z (k .hand)) (W .log _ _ (range .block-below) (range .hand-below) (named-on s r t (ap names q ∙ doing-names o)))
     read-alike reading.Probe o q =
         ap (λ (z : Probed). if leb (k .hand .hi) (k .hand .lo) then read.Bad else readEntry z (k .number) (k .hand))
-        (W .entry _ _ _ (range .block-below) (range .hand-below) (named-on (ap names q ∙ doing-names o)) (probes-inside s r t o q .1))
+        (W .entry _ _ _ (range .block-below) (range .hand-below) (named-on s r t (ap names q ∙ doing-names o)) (probes-inside s r t o q .1))
 
     -- the row of the slot that it has reserved
     finish-alike : (x : Touch) (b L : ℕ) → finishes (e .slot (k .fresh)) x t k b L ≡ finishes (f .slot (k .fresh)) x t k b L

@@ -1,4 +1,4 @@
--- From a sight that shows a state the looks and the report answer what the machine's do.
+-- From a sight that shows a state, the pool's or the state's own, the looks and the report answer what the machine's do.
 -- Rests on Alike and on rule 2: a live handle stands on a block that is there.
 use Prim.Native.Nat.{_+_, _<_, suc, zero, ℕ}
 use mathlib.Core.Bool.{Bool, _&&_, _||_, false, false≢true, not, true, true≢false}
@@ -35,7 +35,6 @@ use Rattle.bridge.specs.Shown.{Shows, is-live, sight-shows, sound-shape}
 use Rattle.bridge.specs.Sound.{Sound}
 use Rattle.acts.specs.declared.Found.the-variants as found
 use Rattle.acts.specs.declared.Counted.the-variants as counted
-use Rattle.block.specs.declared.Looked.the-variants as looked
 use Rattle.rulebook.specs.declared.Reply.the-variants as reply
 use Rattle.rulebook.specs.declared.Status.the-variants as status
 

@@ -28,7 +28,6 @@ use Rattle.rules.specs.Paced.{Paced}
 use Rattle.rules.specs.Rules.{Rules}
 use Rattle.bridge.specs.Asked.{Bridged}
 use Rattle.bridge.specs.Sound.{Sound}
-use Rattle.rulebook.specs.declared.Reply.the-variants as reply
 
 module _ (p : List ℕ) (n h t : ℕ) (o : opens n h t (length p) ≡ true) where
   abbrev d : Sizes

@@ -18,22 +18,14 @@ use Rattle.rulebook.specs.Machine.{release}
 use Rattle.rulebook.specs.Sizes.{if_then_else_, lastSerial, slotOf}
 use Rattle.rulebook.specs.Starts.{begun, noSlot, reserve, startGet, startNew, startPage, startSet, startable}
 use Rattle.rulebook.specs.State.{Result, State, filling, fills, freeBlock, freeSlot, freed, held, idle, inUse, isFree, isLive, liveHandle, names, slotAt, stood, taskAt, withSlot, withTask}
-use Rattle.rulebook.specs.Steps.{probed}
 use Rattle.rulebook.specs.Tests.{by-test}
 use Rattle.theorems.specs.Invariant.Shape.{Shape}
 use Rattle.bridge.specs.Searches.{first-good, first-lowest, first-same, good-if, isBad, isNone, row-search}
 use Rattle.acts.specs.declared.Found.the-variants as found
 use Rattle.acts.specs.declared.Live.the-variants as live
-use Rattle.acts.specs.declared.Read.the-variants as read
-use Rattle.acts.specs.declared.SlotRow.the-variants as slotrow
-use Rattle.acts.specs.declared.TaskRow.the-variants as taskrow
-use Rattle.acts.specs.declared.Touch.the-variants as touch
 use Rattle.rulebook.specs.declared.Stage.the-variants as stage
 use Rattle.rulebook.specs.declared.Reading.the-variants as reading
-use Rattle.rulebook.specs.declared.Progress.the-variants as progress
 use Rattle.rulebook.specs.declared.Reply.the-variants as reply
-use Rattle.block.specs.declared.Looked.the-variants as looked
-use Rattle.block.specs.declared.Probed.the-variants as probed
 
 -- an act that a test chooses
 pub acted-if : (s : State) (b : Bool) (x y : Act) → acted s (if b then x else y) ≡ (if b then acted s x else acted s y)

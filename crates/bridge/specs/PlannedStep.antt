@@ -26,7 +26,6 @@ use Rattle.theorems.specs.Prices.Digits.{Unsettled}
 use Rattle.bridge.specs.Planned.{acted-if, acted-refused, free-is}
 use Rattle.acts.specs.declared.Found.the-variants as found
 use Rattle.acts.specs.declared.Read.the-variants as read
-use Rattle.acts.specs.declared.SlotRow.the-variants as slotrow
 use Rattle.acts.specs.declared.Touch.the-variants as touch
 use Rattle.rulebook.specs.declared.Stage.the-variants as stage
 use Rattle.rulebook.specs.declared.Reading.the-variants as reading

@@ -40,7 +40,6 @@ use Rattle.acts.specs.declared.SlotChange.the-variants as slot
 use Rattle.acts.specs.declared.TaskChange.the-variants as task
 use Rattle.acts.specs.declared.Found.the-variants as found
 use Rattle.acts.specs.declared.Live.the-variants as live
-use Rattle.rulebook.specs.declared.Stage.the-variants as stage
 
 module _ {d : Sizes} {p : List ℕ} (S : Sound d p) where
   abbrev s : State

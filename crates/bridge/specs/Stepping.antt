@@ -3,7 +3,7 @@
 use Prim.Native.Nat.{_+_, _<_, ℕ}
 use mathlib.Core.Bool.{false}
 use mathlib.Core.List.{List}
-use mathlib.Core.Path.{_≡_, ap, refl, subst⁻¹, subst₂, sym}
+use mathlib.Core.Path.{_∙_, _≡_, ap, refl, subst⁻¹}
 use lib.Dec.{eqb, leb, ltb}
 use lib.ListN.{length}
 use borrow.Author.Tests.{eqb-true, leb-false, ltb-true}
@@ -19,28 +19,25 @@ use Rattle.acts.specs.Sight.{Sight, sightOf}
 use Rattle.block.specs.Fills.{fill-keeps, fill-next}
 use Rattle.block.specs.Sound.{Filling, Laid}
 use Rattle.pool.specs.Calls.{stepIn}
-use Rattle.pool.specs.Places.{Spans, blockPart}
+use Rattle.pool.specs.Places.{blockPart}
 use Rattle.pool.specs.Pool.{slotNear, touchedIn, viewOf}
 use Rattle.rulebook.specs.Machine.{Step, call}
-use Rattle.rulebook.specs.State.{State, blockAt, entryAt, fills, freeBlock, handOf, idle, logAt, names, taskAt}
-use Rattle.rulebook.specs.Steps.{aimed, answer, counted, middle, moved, probedAt, step}
+use Rattle.rulebook.specs.State.{State, blockAt, entryAt, fills, freeBlock, idle, logAt, names, taskAt}
+use Rattle.rulebook.specs.Steps.{answer, counted, middle, moved, probedAt, step}
 use Rattle.rulebook.specs.Tests.{if-case}
 use Rattle.rules.specs.Facts.{a-copy, a-get, a-page, append-fits, doing-gets, reserved-slot, unsettled}
 use Rattle.rules.specs.Paced.{TaskRange}
-use Rattle.theorems.specs.Invariant.Facts.{no-filler, no-stander, not-held}
 use Rattle.bridge.specs.Alike.{step-alike}
 use Rattle.bridge.specs.Asked.{Bridged}
 use Rattle.bridge.specs.Doable.{Doable}
-use Rattle.bridge.specs.Looking.{stander-of}
 use Rattle.bridge.specs.Planned.{free-is}
 use Rattle.bridge.specs.PlannedStep.{Searching, planned-step}
 use Rattle.bridge.specs.Shown.{sight-shows, sound-shape, spans}
 use Rattle.bridge.specs.Sound.{Sound, filledTo}
 use Rattle.bridge.specs.Starting.{answers-act, called, ends-act, goes-act, quiet-act}
-use Rattle.bridge.specs.Touching.{append-touches, exchange-touches, take-touches, write-touches}
-use Rattle.bridge.specs.Working.{fill-ends, fill-on, filled-so, filled-whole, finish-act, in-place, named-laid, near-fresh, near-t, touch-act}
+use Rattle.bridge.specs.Touching.{append-touches, exchange-touches, write-touches}
+use Rattle.bridge.specs.Working.{fill-ends, fill-on, filled-so, filled-whole, finish-act, in-place, named-laid, near-fresh, near-t, took-act}
 use Rattle.acts.specs.declared.Read.{Read}
-use Rattle.acts.specs.declared.Found.the-variants as found
 use Rattle.acts.specs.declared.Read.the-variants as read
 use Rattle.acts.specs.declared.SlotChange.the-variants as slot
 use Rattle.acts.specs.declared.TaskChange.the-variants as task
@@ -48,7 +45,6 @@ use Rattle.acts.specs.declared.Touch.the-variants as touch
 use Rattle.rulebook.specs.declared.Progress.the-variants as progress
 use Rattle.rulebook.specs.declared.Reading.the-variants as reading
 use Rattle.rulebook.specs.declared.Stage.the-variants as stage
-use Rattle.rulebook.specs.declared.Status.the-variants as status
 use Rattle.rulebook.specs.declared.Reply.the-variants as reply
 
 -- ---- a get keeps the cell in hand
@@ -77,9 +73,6 @@ module _ {d : Sizes} {p : List ℕ} (S : Sound d p) where
   abbrev f : Sight
   f = sightOf s
 
-  g : Spans d p
-  g = spans d p S
-
   module _ (t : ℕ) (inT : t < d .t) where
     abbrev k : Task
     k = taskAt s t
@@ -89,19 +82,11 @@ module _ {d : Sizes} {p : List ℕ} (S : Sound d p) where
 
     -- ---- taking
 
-    took-act : (x : Stage) → filledTo x (d .n) 0 ≡ 0 → freeBlock s < d .b → Doable d p (goes (touch.Take (freeBlock s)) t (aimed (moved (counted k) x (handOf 0)) (freeBlock s)) reply.Quiet)
-    unfolding slotNear aimed moved viewOf
-    took-act x e h =
-        let free = not-held s h in
-        let T = take-touches g (freeBlock s) h in
-        touch-act S slot.Same _ _ (T .0) (λ l. let j = stander-of s (freeBlock s) l in absurd (no-stander s (freeBlock s) free (j .0) (j .1) (j .2))) (λ u _ l o. no-filler s (freeBlock s) free u l o) refl (near-t S t inT _) tt
-        (λ _. subst₂ (λ (c : ℕ) (w : List ℕ). Filling c (d .n) w) (sym e) (sym (T .0 .own)) (T .1))
-
     take-act : (x : Stage) → filledTo x (d .n) 0 ≡ 0 → Doable d p (takes (freeIn f) f t (counted k) x)
     unfolding takes givesUp sightOf counted viewOf
     take-act x e =
         subst⁻¹ (λ (y : Found). Doable d p (takes y f t (counted k) x)) (free-is s (sound-shape d p S))
-        (if-case (λ (y : Found). Doable d p (takes y f t (counted k) x)) (ltb (freeBlock s) (d .b)) (λ q. took-act x e (ltb-true _ _ q)) (λ _. ends-act S (k .fresh) _ t idle _ (range .fresh-below) inT refl refl))
+        (if-case (λ (y : Found). Doable d p (takes y f t (counted k) x)) (ltb (freeBlock s) (d .b)) (λ q. took-act S t inT x e (ltb-true _ _ q)) (λ _. ends-act S (k .fresh) _ t idle _ (range .fresh-below) inT refl refl))
 
     -- ---- filling
 
@@ -132,20 +117,20 @@ module _ {d : Sizes} {p : List ℕ} (S : Sound d p) where
     unfolding exchangesOn sightOf counted moved slotNear viewOf
     exchange-act q =
         if-case (Doable d p) (eqb (blockAt s (k .block) .version) (k .number))
-        (λ e. let T = exchange-touches g (k .block) (range .block-below) (k .number) (eqb-true _ _ e) (range .number-within) in
+        (λ e. let T = exchange-touches (spans d p S) (k .block) (range .block-below) (k .number) (eqb-true _ _ e) (range .number-within) in
         in-place S t inT slot.Same _ _ (ap names q) (T .0) (T .1 (named-laid S t inT (ap names q))) refl tt (if-case (λ (k′ : Task). fills (k′ .stage) ≡ false) (ltb (k .number) (d .n)) (λ _. refl) (λ _. refl)))
         (λ _. goes-act S t _ _ inT refl)
 
     append-act : k .stage ≡ stage.Append → Doable d p (appendsEntry t (counted k))
     unfolding appendsEntry counted moved slotNear viewOf
     append-act q =
-        let T = append-touches g (k .block) (range .block-below) (named-laid S t inT (ap names q)) (append-fits s (S .rules) t q .0) (k .cell) (record { version = k .number; old = k .hand .guess }) (range .cell-below) in
+        let T = append-touches (spans d p S) (k .block) (range .block-below) (named-laid S t inT (ap names q)) (append-fits s (S .rules) t q .0) (k .cell) (record { version = k .number; old = k .hand .guess }) (range .cell-below) in
         in-place S t inT slot.Same _ _ (ap names q) (T .0) (T .1) refl tt refl
 
     write-act : k .stage ≡ stage.Write → Doable d p (writesNew f t (counted k))
     unfolding writesNew counted viewOf
     write-act q =
-        let T = write-touches g (k .block) (range .block-below) (k .cell) (k .value) (range .cell-below) in
+        let T = write-touches (spans d p S) (k .block) (range .block-below) (k .cell) (k .value) (range .cell-below) in
         let L = T .1 (named-laid S t inT (ap names q)) in
         finish-act S t inT (touch.Write (k .block) (k .cell) (k .value)) (k .block) (k .number + 1) (λ serial r. in-place S t inT (slot.To (k .fresh) _) idle r (ap names q) (T .0) L (near-fresh S t inT _) (λ _. subst⁻¹ (Laid (d .n)) (T .0 .own) L) refl)
 
@@ -164,13 +149,17 @@ module _ {d : Sizes} {p : List ℕ} (S : Sound d p) where
     page-goes (read.Got (progress.Settled w)) = if-case (Doable d p) (eqb (w .cell + 1) (k .until)) (λ _. goes-act S t _ _ inT refl) (λ _. goes-act S t _ _ inT refl)
 
     -- a copy has filled its block up to the cell that it reads
+    copy-on : (y : Reading) → k .stage ≡ stage.Copying y → (x : Stage) (w : Hand) → filledTo x (d .n) (w .cell) ≡ w .cell → w .cell ≡ k .hand .cell → Doable d p (goes touch.Nothing t (moved (counted k) x w) reply.Quiet)
+    unfolding moved counted slotNear touchedIn
+    copy-on y q x w o e =
+        quiet-act S slot.Same (task.To t _) _ refl (near-t S t inT _) tt
+        (λ _. subst⁻¹ (λ (c : ℕ). Filling c (d .n) (blockPart p d (k .target))) (o ∙ e) (filled-so S t inT (stage.Copying y) q refl))
+
     copy-goes : (y : Reading) → k .stage ≡ stage.Copying y → (x : Read) → CellKept (k .hand .cell) x → Doable d p (copyGoes x t (counted k))
-    unfolding copyGoes moved counted slotNear touchedIn
+    unfolding copyGoes
     copy-goes y q read.Bad e = answers-act S _
-    copy-goes y q (read.Got (progress.Going r w)) e =
-        quiet-act S slot.Same (task.To t _) _ refl (near-t S t inT _) tt (λ _. subst⁻¹ (λ (c : ℕ). Filling c (d .n) (blockPart p d (k .target))) e (filled-so S t inT (stage.Copying y) q refl))
-    copy-goes y q (read.Got (progress.Settled w)) e =
-        quiet-act S slot.Same (task.To t _) _ refl (near-t S t inT _) tt (λ _. subst⁻¹ (λ (c : ℕ). Filling c (d .n) (blockPart p d (k .target))) e (filled-so S t inT (stage.Copying y) q refl))
+    copy-goes y q (read.Got (progress.Going r w)) e = copy-on y q (stage.Copying r) w refl e
+    copy-goes y q (read.Got (progress.Settled w)) e = copy-on y q stage.FillCopy w refl e
 
     -- ---- every stage
 

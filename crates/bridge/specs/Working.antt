@@ -1,9 +1,9 @@
--- Acts that touch a block of a sound pool and can be done: on the block of a set in place, on one that the task fills, on a free one.
+-- Acts of a task that touch a block of a sound pool and can be done: on the block of a set in place, on a free one, on one that the task fills.
 -- Rests on Touching and Starting; the rules say that nothing else is at work there.
 use Prim.Native.Nat.{_<_, ℕ}
 use mathlib.Core.Bool.{false, false≢true, true, true≢false}
 use mathlib.Core.List.{List}
-use mathlib.Core.Path.{_∙_, _≡_, ap, refl, subst, subst⁻¹, sym}
+use mathlib.Core.Path.{_∙_, _≡_, ap, refl, subst, subst⁻¹, subst₂, sym}
 use lib.Dec.{eqb, leb}
 use borrow.Author.Tests.{eqb-false, eqb-true, lt-ltb, ne-eqb}
 use Rattle.acts.specs.declared.SlotChange.{SlotChange}
@@ -23,26 +23,22 @@ use Rattle.pool.specs.Acts.{taskNamed, touched-keeps}
 use Rattle.pool.specs.Places.{Spans, blockPart}
 use Rattle.pool.specs.Pool.{slotNear, taskNear, viewOf}
 use Rattle.rulebook.specs.Sizes.{lastSerial}
-use Rattle.rulebook.specs.State.{State, fills, idle, names, slotAt, stood, taskAt}
-use Rattle.rulebook.specs.Steps.{counted}
+use Rattle.rulebook.specs.State.{State, fills, freeBlock, handOf, idle, names, slotAt, stood, taskAt}
+use Rattle.rulebook.specs.Steps.{aimed, counted, moved}
 use Rattle.rulebook.specs.Tests.{by-test, if-case}
 use Rattle.rules.specs.Facts.{filled-block}
 use Rattle.rules.specs.Paced.{TaskRange}
-use Rattle.theorems.specs.Invariant.Facts.{stood-by}
+use Rattle.theorems.specs.Invariant.Facts.{no-filler, no-stander, not-held}
+use Rattle.bridge.specs.Alike.{named-on}
 use Rattle.bridge.specs.Doable.{Doable, Seats, Turns, wordsAfter}
 use Rattle.bridge.specs.Looking.{stander-of}
 use Rattle.bridge.specs.Shown.{spans}
 use Rattle.bridge.specs.Sound.{Sound, filledTo}
 use Rattle.bridge.specs.Starting.{answers-act}
-use Rattle.bridge.specs.Touching.{Touches, fill-touches}
-use Rattle.acts.specs.declared.Found.the-variants as found
-use Rattle.acts.specs.declared.Read.the-variants as read
+use Rattle.bridge.specs.Touching.{Touches, fill-touches, take-touches}
 use Rattle.acts.specs.declared.SlotChange.the-variants as slot
 use Rattle.acts.specs.declared.TaskChange.the-variants as task
 use Rattle.acts.specs.declared.Touch.the-variants as touch
-use Rattle.rulebook.specs.declared.Progress.the-variants as progress
-use Rattle.rulebook.specs.declared.Reading.the-variants as reading
-use Rattle.rulebook.specs.declared.Stage.the-variants as stage
 use Rattle.rulebook.specs.declared.Status.the-variants as status
 use Rattle.rulebook.specs.declared.Reply.the-variants as reply
 
@@ -60,9 +56,8 @@ module _ {d : Sizes} {p : List ℕ} (S : Sound d p) where
   g : Spans d p
   g = spans d p S
 
-  -- ---- an act that touches block b, on which no other task fills
-
-  pub touch-act : {x : Touch} {b : ℕ} {z : List ℕ} (c : SlotChange) (e : TaskChange) (r : Reply) → Touches d p x b z → (stood s b ≡ true → Laid (d .n) z) → ((u : ℕ) → taskNamed e u ≡ false → fills (taskAt s u .stage) ≡ true → taskAt s u .target ≡ b → ⊥)
+  -- an act that touches block b, which no other task fills
+  touch-act : {x : Touch} {b : ℕ} {z : List ℕ} (c : SlotChange) (e : TaskChange) (r : Reply) → Touches d p x b z → (stood s b ≡ true → Laid (d .n) z) → ((u : ℕ) → taskNamed e u ≡ false → fills (taskAt s u .stage) ≡ true → taskAt s u .target ≡ b → ⊥)
       → slotNear d c ≡ true → taskNear d e ≡ true → Seats d p x c → Turns d p x e → Doable d p (record { touch = x; slot = c; task = e; reply = r })
   touch-act {x} {b} {z} c e r T laid alone i o seats turns = record {
     reach = record { touch = T .near; slot = i; task = o };
@@ -88,6 +83,7 @@ module _ {d : Sizes} {p : List ℕ} (S : Sound d p) where
     abbrev k : Task
     k = taskAt s t
 
+    -- the task is there, and the slot that it has reserved
     pub near-t : (k′ : Task) → taskNear d (task.To t k′) ≡ true
     unfolding taskNear
     near-t k′ = lt-ltb _ _ inT
@@ -95,7 +91,6 @@ module _ {d : Sizes} {p : List ℕ} (S : Sound d p) where
     abbrev range : TaskRange (s .sizes) (taskAt s t)
     range = S .paced .tasks t
 
-    -- its task changes, and its slot does too
     pub near-fresh : (y : Slot) → slotNear d (slot.To (k .fresh) y) ≡ true
     unfolding slotNear viewOf
     near-fresh y = lt-ltb _ _ (range .fresh-below)
@@ -107,7 +102,7 @@ module _ {d : Sizes} {p : List ℕ} (S : Sound d p) where
         touch-act c (task.To t k′) r T (λ _. laid) (λ u _ m o. S .rules .valid .none-on-it u (k .slot) m (l .0) (l .1 ∙ sym o)) i (near-t k′) seats (λ m. absurd (true≢false (sym m ∙ e)))
 
     -- a block that the task fills has no live handle and no other task
-    pub filling : {x : Touch} {z : List ℕ} (c : SlotChange) (k′ : Task) (r : Reply) → fills (k .stage) ≡ true → Touches d p x (k .target) z → slotNear d c ≡ true → Seats d p x c → Turns d p x (task.To t k′) → Doable d p (record { touch = x; slot = c; task = task.To t k′; reply = r })
+    filling : {x : Touch} {z : List ℕ} (c : SlotChange) (k′ : Task) (r : Reply) → fills (k .stage) ≡ true → Touches d p x (k .target) z → slotNear d c ≡ true → Seats d p x c → Turns d p x (task.To t k′) → Doable d p (record { touch = x; slot = c; task = task.To t k′; reply = r })
     unfolding taskNamed
     filling c k′ r m T i seats turns =
         let v = S .rules .valid in
@@ -122,15 +117,23 @@ module _ {d : Sizes} {p : List ℕ} (S : Sound d p) where
 
     pub named-laid : names (k .stage) ≡ true → Laid (d .n) (blockPart p d (k .block))
     unfolding viewOf
-    named-laid n = let l = S .rules .valid .named-live t n in S .stood-laid _ (range .block-below) (stood-by s (k .slot) (k .block) (l .0) (l .1))
+    named-laid n = S .stood-laid _ (range .block-below) (named-on s (S .rules) t n)
 
     -- a task that ends with a handle
     pub finish-act : (x : Touch) (b L : ℕ) → ((serial : ℕ) (r : Reply) → Doable d p (ends x (k .fresh) (record { serial = serial; status = status.Live; block = b; number = L }) t idle r)) → Doable d p (finishes (f .slot (k .fresh)) x t (counted k) b L)
     unfolding finishes sightOf counted
     finish-act x b L h = if-case (Doable d p) (leb lastSerial (slotAt s (k .fresh) .serial)) (λ _. answers-act S _) (λ _. h _ _)
 
-    -- ---- filling
+    -- the lowest free block is taken
+    pub took-act : (x : Stage) → filledTo x (d .n) 0 ≡ 0 → freeBlock s < d .b → Doable d p (goes (touch.Take (freeBlock s)) t (aimed (moved (counted k) x (handOf 0)) (freeBlock s)) reply.Quiet)
+    unfolding slotNear aimed moved viewOf
+    took-act x e h =
+        let free = not-held s h in
+        let T = take-touches g (freeBlock s) h in
+        touch-act slot.Same _ _ (T .0) (λ l. let j = stander-of s (freeBlock s) l in absurd (no-stander s (freeBlock s) free (j .0) (j .1) (j .2))) (λ u _ l o. no-filler s (freeBlock s) free u l o) refl (near-t _) tt
+        (λ _. subst₂ (λ (c : ℕ) (w : List ℕ). Filling c (d .n) w) (sym e) (sym (T .0 .own)) (T .1))
 
+    -- a cell of the block that it fills is written
     module _ (m : fills (k .stage) ≡ true) (i v : ℕ) (h : i < d .n) where
       touches : Touches d p (touch.Fill (k .target) i v) (k .target) (fillIn (d .n) (blockPart p d (k .target)) i v .0)
       unfolding viewOf
