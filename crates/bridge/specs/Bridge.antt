@@ -26,8 +26,8 @@ use Rattle.bridge.specs.Stepping.{step-bridged}
 pub bridge : (x : Asked) {d : Sizes} {p : List ℕ} → Sound d p → Bridged (sizesAfter x p d) (asked x p) (call (callOf x p) (viewOf d p))
 unfolding asked callOf sizesAfter call
 bridge (Open n h t) S = open-bridged S n h t
-bridge (New t v) S = new-bridged S t 0 0 v
-bridge (Get t h i) S = get-bridged S t h i 0
+bridge (New t v) S = new-bridged S t v
+bridge (Get t h i) S = get-bridged S t h i
 bridge (Set t h i v) S = set-bridged S t h i v
 bridge (Page t h from m) S = page-bridged S t h from m
 bridge (Step t) S = step-bridged S t

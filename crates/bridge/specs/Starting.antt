@@ -148,22 +148,21 @@ module _ {d : Sizes} {p : List ℕ} (S : Sound d p) where
   sh : Shape s
   sh = sound-shape d p S
 
-  module _ (t h i v : ℕ) where
-    pub new-bridged : Bridged d (startNewIn p t v) (startNew (viewOf d p) t v)
-    unfolding startNewIn call
-    new-bridged = called (λ e. planNew e t v) (New t v) (new-alike W sh t h i v) (new-act t h i v) (planned-new s sh t h i v)
+  pub new-bridged : (t v : ℕ) → Bridged d (startNewIn p t v) (startNew (viewOf d p) t v)
+  unfolding startNewIn call
+  new-bridged t v = called (λ e. planNew e t v) (New t v) (new-alike W sh t 0 0 v) (new-act t 0 0 v) (planned-new s sh t 0 0 v)
 
-    pub get-bridged : Bridged d (startGetIn p t h i) (startGet (viewOf d p) t h i)
-    unfolding startGetIn call
-    get-bridged = called (λ e. planGet e t h i) (Get t h i) (get-alike W sh t h i v) (get-act t h i v) (planned-get s sh t h i v)
+  pub get-bridged : (t h i : ℕ) → Bridged d (startGetIn p t h i) (startGet (viewOf d p) t h i)
+  unfolding startGetIn call
+  get-bridged t h i = called (λ e. planGet e t h i) (Get t h i) (get-alike W sh t h i 0) (get-act t h i 0) (planned-get s sh t h i 0)
 
-    pub set-bridged : Bridged d (startSetIn p t h i v) (startSet (viewOf d p) t h i v)
-    unfolding startSetIn call
-    set-bridged = called (λ e. planSet e t h i v) (Set t h i v) (set-alike W sh t h i v) (set-act t h i v) (planned-set s sh t h i v)
+  pub set-bridged : (t h i v : ℕ) → Bridged d (startSetIn p t h i v) (startSet (viewOf d p) t h i v)
+  unfolding startSetIn call
+  set-bridged t h i v = called (λ e. planSet e t h i v) (Set t h i v) (set-alike W sh t h i v) (set-act t h i v) (planned-set s sh t h i v)
 
-    pub page-bridged : Bridged d (startPageIn p t h i v) (startPage (viewOf d p) t h i v)
-    unfolding startPageIn call
-    page-bridged = called (λ e. planPage e t h i v) (Page t h i v) (page-alike W sh t h i v) (page-act t h i v) (planned-page s sh t h i v)
+  pub page-bridged : (t h from m : ℕ) → Bridged d (startPageIn p t h from m) (startPage (viewOf d p) t h from m)
+  unfolding startPageIn call
+  page-bridged t h from m = called (λ e. planPage e t h from m) (Page t h from m) (page-alike W sh t h from m) (page-act t h from m) (planned-page s sh t h from m)
 
   pub release-bridged : (h : ℕ) → Bridged d (releaseIn p h) (release (viewOf d p) h)
   unfolding releaseIn call
