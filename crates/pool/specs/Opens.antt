@@ -3,10 +3,10 @@
 use Prim.Native.Nat.{ℕ, zero, suc, _+_, _-_, _≤_, _<_}
 use native.Mathlib.Numerals.{add-one}
 use native.Mathlib.Omega.{arith}
-use mathlib.Core.Path.{_≡_, refl, sym, ap, ap₂, _∙_}
+use mathlib.Core.Path.{_≡_, refl, sym, ap, ap₂, subst, _∙_}
 use mathlib.Core.List.{List, _++_, append-nil}
 use lib.ListN.{length, getD, set, drop, replicate, length-set, length-replicate, replicate-append-replicate}
-use lib.Seq.{drop-cons, set-at, append-snoc, drop-length}
+use lib.Seq.{drop-cons, set-at, set-getD, append-snoc, drop-length}
 use Rattle.rulebook.specs.declared.Sizes.{Sizes}
 use Rattle.rulebook.specs.declared.Reply.the-variants as reply
 use Rattle.rulebook.specs.Sizes.{mostHandles, mostTasks, headerWords, controlWords}
@@ -16,6 +16,10 @@ use Rattle.pool.specs.Header.{headerFields, headed, sizesIn}
 use Rattle.pool.specs.Sizing.{Openable, opens-says, sizes-good}
 use Rattle.pool.specs.Parts.{part, splice, length-part}
 use Rattle.pool.specs.Pool.{controlOf, openUnder, openIn}
+
+-- a word that is 0 already
+pub zero-same : (part : List ℕ) (i : ℕ) → getD part i 0 ≡ 0 → part ≡ set part i 0
+zero-same part i z = sym (ap (set part i) (sym z) ∙ set-getD part i 0)
 
 -- ---- clearing: the words before i are 0, and the others as they were
 
@@ -32,8 +36,8 @@ module _ {was part : List ℕ} {i : ℕ} (c : Cleared was part i) where
   clear-length = c .long
 
   module _ (h : i < length part) where
-    pub clear-on : Cleared was (set part i 0) (i + 1)
-    clear-on =
+    clear-next : Cleared was (set part i 0) (i + 1)
+    clear-next =
         let l = c .long in
         record {
           long = length-set part i 0 ∙ l;
@@ -45,6 +49,9 @@ module _ {was part : List ℕ} {i : ℕ} (c : Cleared was part i) where
               ∙ ap₂ (λ (x y : List ℕ). x ++ y) (replicate-append-replicate {A = ℕ} i 1 0) (ap (λ (x : ℕ). drop x was) (sym (add-one i)));
         }
 
+    pub clear-on : (q : List ℕ) → q ≡ set part i 0 → Cleared was q (i + 1)
+    clear-on q e = subst (λ (x : List ℕ). Cleared was x (i + 1)) (sym e) clear-next
+
   pub clear-end : length part ≤ i → part ≡ replicate (length was) 0
   clear-end h =
       let l = c .long in
@@ -52,7 +59,7 @@ module _ {was part : List ℕ} {i : ℕ} (c : Cleared was part i) where
       let e : i ≡ length was = omega arith in
       c .is ∙ ap (λ (x : ℕ). replicate x 0 ++ drop x was) e ∙ ap (λ (x : List ℕ). replicate (length was) 0 ++ x) (drop-length was) ∙ append-nil (replicate (length was) 0)
 
-pub ruleset clears = (clear-start, clear-length, clear-on, clear-end)
+pub ruleset clears = (clear-start, clear-length, clear-on, clear-end, zero-same)
 
 -- ---- opening
 

@@ -19,8 +19,7 @@ clear-spec =
     Inv
     μ
     (λ c. search (needs, clears))
-    (λ c. search (needs, clears))
-    (λ c. search (needs, clears))
+    (λ c κs. search (needs, clears))
     (λ c. search (needs, clears))
     (λ c. search (needs, clears))
     (λ c. search (needs, clears))
