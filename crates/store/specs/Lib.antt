@@ -4,3 +4,4 @@ pub mod Reach
 pub mod Ways
 pub mod Steps
 pub mod Calls
+pub mod Determined
