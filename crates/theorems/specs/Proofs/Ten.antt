@@ -16,16 +16,16 @@ use Rattle.rulebook.specs.declared.Sizes.{Sizes}
 use Rattle.rulebook.specs.declared.Slot.{Slot}
 use Rattle.rulebook.specs.declared.Stage.{Stage}
 use Rattle.rulebook.specs.declared.Stage.the-variants.{Append, Copying, Exchange, FillCopy, FillNew, Getting, Idle, Paging, Put, Read, TakeCopy, TakeNew, Write}
-use Rattle.rulebook.specs.declared.Status.the-variants.{Free}
+use Rattle.rulebook.specs.declared.Status.the-variants.{Free, Live}
 use Rattle.rulebook.specs.declared.Task.{Task}
 use Rattle.rulebook.specs.Answers.{refusal}
 use Rattle.rulebook.specs.Lists.{listTo-same, lowest-none}
 use Rattle.rulebook.specs.Sizes.{serialOf, slotOf}
-use Rattle.rulebook.specs.State.{Result, State, blockAt, freeBlock, freed, held, idle, isLive, listTo, liveHandle, slotAt, taskAt, withSlot, withTask}
+use Rattle.rulebook.specs.State.{Block, Result, State, blockAt, freeBlock, freed, held, idle, isLive, listTo, liveHandle, noBlock, slotAt, taskAt, withSlot, withTask}
 use Rattle.rulebook.specs.Steps.{counted, exchanged, finished, gotCopy, gotGet, gotPage, hereOf, noRoom, step, stepAt, taken}
 use Rattle.rulebook.specs.Tests.{by-test, if-case}
 use Rattle.theorems.specs.Invariant.Calls.{live-handle}
-use Rattle.theorems.specs.Invariant.Moves.{InvS, Same}
+use Rattle.theorems.specs.Invariant.Moves.{InvS}
 use Rattle.theorems.specs.Invariant.Shape.{Shape}
 use Rattle.theorems.specs.Invariant.Steps.{inv-step}
 use Rattle.theorems.specs.Terms.{Harmless, shown, valueAt}
@@ -103,20 +103,23 @@ unfolding shown
 shown-same s x h n e v =
     ap₂ (λ (m : ℕ) (z : Slot). listTo m (λ (i : ℕ). valueAt (blockAt x (z .block)) (z .number) i)) n e ∙ listTo-same (s .sizes .n) _ _ (λ i _. v i)
 
-pub ten-proof : (s : State) → Shape s → InvS s → (t : ℕ) → refusal (step s t .1) ≡ 10 → Harmless s t (step s t .0)
+-- where the slots of live handles are as they were
+pub ten-harmless : (s : State) → Shape s → (t : ℕ) → ((j : ℕ) → slotAt s j .status ≡ Live → slotAt (step s t .0) j ≡ slotAt s j)
+    → refusal (step s t .1) ≡ 10 → Harmless s t (step s t .0)
 unfolding liveHandle
-ten-proof s sh iv t e =
+ten-harmless s sh t same e =
     record {
       all-held = q .all-held;
       is-idle = q .now-idle;
       is-free = q .now-free;
       same-blocks = q .same-blocks;
-      still-live = λ h l. ap₂ (λ (z : Sizes) (y : Slot). ltb (slotOf h) (z .h) && (isLive (y .status) && eqb (y .serial) (serialOf h))) (q .same-sizes) (same (slotOf h) (live-handle s h l .lives) .0) ∙ l;
-      still-shows = λ h l. let k = same (slotOf h) (live-handle s h l .lives) in shown-same s _ h (ap (λ (z : Sizes). z .n) (q .same-sizes)) (k .0) (k .1);
+      still-live = λ h l. ap₂ (λ (z : Sizes) (y : Slot). ltb (slotOf h) (z .h) && (isLive (y .status) && eqb (y .serial) (serialOf h))) (q .same-sizes) (same (slotOf h) (live-handle s h l .lives)) ∙ l;
+      still-shows = λ h l. shown-same s _ h (ap (λ (z : Sizes). z .n) (q .same-sizes)) (same (slotOf h) (live-handle s h l .lives))
+          (λ i. ap (λ (bs : List Block). valueAt (getD bs (slotAt s (slotOf h) .block) noBlock) (slotAt s (slotOf h) .number) i) (q .same-blocks));
     }
   where
     q : Left s t (taskAt s t .fresh) (step s t .0)
     q = ten-step s sh t e
 
-    same : Same s (step s t .0)
-    same = inv-step s sh iv t .1
+pub ten-proof : (s : State) → Shape s → InvS s → (t : ℕ) → refusal (step s t .1) ≡ 10 → Harmless s t (step s t .0)
+ten-proof s sh iv t e = ten-harmless s sh t (λ j l. inv-step s sh iv t .1 j l .0) e

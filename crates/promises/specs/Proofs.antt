@@ -1,0 +1,5 @@
+-- The proofs of the promises.
+-- Rests on Promises.
+pub mod Calls
+pub mod Refusals
+pub mod One

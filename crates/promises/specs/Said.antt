@@ -1,0 +1,207 @@
+-- Calls as C makes them: what a call leaves of the pool and the answer slice, the number that it returns, and what a caller notes of it.
+-- Each clause of `spoken` is the right side of that C function's contract. Rests on winchclover, bridge's Asked and the rule book's histories.
+use Prim.Native.Nat.{_+_, ℕ}
+use mathlib.Core.Bool.{Bool, _&&_, _||_, not}
+use mathlib.Core.List.{List, [], _++_, _∷_}
+use lib.Dec.{eqb, ltb}
+use lib.ListN.{getD, length, take}
+use Rattle.bridge.specs.Asked.{Asked, Get, LookCell, LookEntry, LookLog, LookTask, LookVersion, New, Open, Page, Release, Report, Set, Step, callsOf}
+use Rattle.pool.specs.Calls.{lookCellIn, lookEntryIn, lookLogIn, lookTaskIn, lookVersionIn, releaseIn, reportIn, startGetIn, startNewIn, startPageIn, startSetIn, stepIn}
+use Rattle.pool.specs.declared.Header.{Header}
+use Rattle.pool.specs.declared.Header.the-variants as header
+use Rattle.pool.specs.Header.{headerOf, sizesIn}
+use Rattle.pool.specs.Pool.{openIn, viewOf}
+use Rattle.rulebook.specs.Answers.{refusal, word}
+use Rattle.rulebook.specs.Array.{newTable, setTable}
+use Rattle.rulebook.specs.declared.Reply.{Reply}
+use Rattle.rulebook.specs.declared.Stage.{Stage}
+use Rattle.rulebook.specs.History.{Ended, Numbered, Past, Value, Work, change, fresh, isSet, making, notYetSet, one, paging, probing, reading, released, resting, setting, started, tableOf}
+use Rattle.rulebook.specs.Machine.{Call}
+use Rattle.rulebook.specs.Sizes.{if_then_else_}
+use Rattle.rulebook.specs.State.{State, exchanges, listTo, taskAt}
+use Rattle.winchclover.specs.Answered.{answeredIn, shownIn}
+
+-- ---- one call
+
+-- pool and answer slice as they come back, and the number that is returned
+abbrev pub Outcome : Type 0
+Outcome = (List ℕ × List ℕ) × ℕ
+
+-- a call that only looks leaves the pool
+abbrev looks : List ℕ → List ℕ × ℕ → Outcome
+looks p z = ((p, z .0), z .1)
+
+-- what was asked, pool and answer slice as they were lent
+unfoldable pub spoken : Asked → List ℕ → List ℕ → Outcome
+spoken (Open n h t) p a = answeredIn (λ q. openIn q n h t) p a
+spoken (New t v) p a = answeredIn (λ q. startNewIn q t v) p a
+spoken (Get t h i) p a = answeredIn (λ q. startGetIn q t h i) p a
+spoken (Set t h i v) p a = answeredIn (λ q. startSetIn q t h i v) p a
+spoken (Page t h from m) p a = answeredIn (λ q. startPageIn q t h from m) p a
+spoken (Step t) p a = answeredIn (λ q. stepIn q t) p a
+spoken (Release h) p a = answeredIn (λ q. releaseIn q h) p a
+spoken (LookVersion b) p a = looks p (shownIn (λ q. lookVersionIn q b) p a)
+spoken (LookCell b i) p a = looks p (shownIn (λ q. lookCellIn q b i) p a)
+spoken (LookLog b i) p a = looks p (shownIn (λ q. lookLogIn q b i) p a)
+spoken (LookEntry b i j) p a = looks p (shownIn (λ q. lookEntryIn q b i j) p a)
+spoken (LookTask t) p a = looks p (shownIn (λ q. lookTaskIn q t) p a)
+spoken Report p a = looks p (shownIn reportIn p a)
+
+abbrev pub poolAfter : Asked → List ℕ → List ℕ → List ℕ
+poolAfter x p a = spoken x p a .0 .0
+
+abbrev pub answerAfter : Asked → List ℕ → List ℕ → List ℕ
+answerAfter x p a = spoken x p a .0 .1
+
+abbrev pub numberOf : Asked → List ℕ → List ℕ → ℕ
+numberOf x p a = spoken x p a .1
+
+-- the sizes of the store that a call is about: open's are those that it opens, the others' stand in words 0 to 5
+unfoldable pub storeOf : Asked → List ℕ → Header
+storeOf (Open n h t) p = sizesIn n h t (length p)
+storeOf (New t v) p = headerOf p
+storeOf (Get t h i) p = headerOf p
+storeOf (Set t h i v) p = headerOf p
+storeOf (Page t h from m) p = headerOf p
+storeOf (Step t) p = headerOf p
+storeOf (Release h) p = headerOf p
+storeOf (LookVersion b) p = headerOf p
+storeOf (LookCell b i) p = headerOf p
+storeOf (LookLog b i) p = headerOf p
+storeOf (LookEntry b i j) p = headerOf p
+storeOf (LookTask t) p = headerOf p
+storeOf Report p = headerOf p
+
+-- word j of an answer slice
+abbrev pub wordOf : List ℕ → ℕ → ℕ
+wordOf a j = getD a j 0
+
+-- under 16 words
+abbrev pub short : List ℕ → Bool
+short a = ltb (length a) 16
+
+-- the state that the words of a pool show; an empty one where words 0 to 5 do not describe the pool
+unfoldable pub stateUnder : Header → List ℕ → State
+stateUnder header.Bad p = record { sizes = record { n = 0; h = 0; t = 0; b = 0 }; slots = []; tasks = []; blocks = [] }
+stateUnder (header.Good d) p = viewOf d p
+
+unfoldable pub stateIn : List ℕ → State
+stateIn p = stateUnder (headerOf p) p
+
+-- ---- what a caller notes of one call: by the number that it returned, the answer slice that came back, and the state that the pool then shows
+
+-- a step's answer: it hands out a cell; the task ends
+abbrev pub hands : List ℕ → Bool
+hands a = eqb (wordOf a 0) 1 || eqb (wordOf a 0) 3
+
+abbrev pub ends : List ℕ → Bool
+ends a = eqb (wordOf a 0) 2 || eqb (wordOf a 0) 3
+
+-- a version, where a new or a set ends and is not refused 10; word 2 is its public number
+abbrev pub made : ℕ → List Numbered → Work → ℕ → List ℕ → List Numbered
+made n vs resting k a = []
+made n vs (making v) k a = if ends a && eqb k 0 then record { handle = wordOf a 2; table = newTable n v } ∷ [] else []
+made n vs (reading h i) k a = []
+made n vs (setting h i v) k a = if ends a && eqb k 0 then record { handle = wordOf a 2; table = setTable (tableOf vs h) i v } ∷ [] else []
+made n vs (paging h from m) k a = []
+
+-- a value, where a get ends: word 4
+abbrev pub got : Work → List ℕ → List Value
+got resting a = []
+got (making v) a = []
+got (reading h i) a = if ends a then record { handle = h; cell = i; value = wordOf a 4 } ∷ [] else []
+got (setting h i v) a = []
+got (paging h from m) a = []
+
+-- a value, where a page hands out a cell: words 3 and 4
+abbrev pub paged : Work → List ℕ → List Value
+paged resting a = []
+paged (making v) a = []
+paged (reading h i) a = []
+paged (setting h i v) a = []
+paged (paging h from m) a = if hands a then record { handle = h; cell = wordOf a 3; value = wordOf a 4 } ∷ [] else []
+
+-- the task's end: word 1 tells its steps; m accepted steps were counted, q of them probes
+abbrev pub over : ℕ → ℕ → List Value → Stage → Work → List ℕ → List Ended
+over m q l g w a =
+    if ends a then record { work = w; last = g; given = l; told = wordOf a 1; counted = m; probes = q } ∷ [] else []
+
+-- an accepted step of task t, started for w
+unfoldable pub stepped : Work → ℕ → State → ℕ → List ℕ → Past → Past
+stepped w t s k a p =
+    let g = taskAt (p .store) t .stage in
+    let m = p .counts t + 1 in
+    let q = p .probes t + one (probing g) in
+    let l = p .given t ++ (got w a ++ paged w a) in
+    record {
+      store = s;
+      versions = made (p .store .sizes .n) (p .versions) w k a ++ p .versions;
+      works = p .works;
+      counts = change (p .counts) t m;
+      probes = change (p .probes) t q;
+      given = change (p .given) t l;
+      gets = got w a ++ p .gets;
+      pages = paged w a ++ p .pages;
+      ends = over m q l g w a ++ p .ends;
+      setSteps = p .setSteps + one (isSet w);
+      firsts = p .firsts + one (exchanges g && notYetSet (p .store) t);
+      laters = p .laters + one (exchanges g && not (notYetSet (p .store) t));
+    }
+
+unfoldable pub noted : Asked → State → ℕ → List ℕ → Past → Past
+noted (Open n h t) s k a p = fresh s
+noted (New t v) s k a p = started (making v) t s p
+noted (Get t h i) s k a p = started (reading h i) t s p
+noted (Set t h i v) s k a p = started (setting h i v) t s p
+noted (Page t h from m) s k a p = started (paging h from m) t s p
+noted (Step t) s k a p = stepped (p .works t) t s k a p
+noted (Release h) s k a p = released s p
+noted (LookVersion b) s k a p = p
+noted (LookCell b i) s k a p = p
+noted (LookLog b i) s k a p = p
+noted (LookEntry b i j) s k a p = p
+noted (LookTask t) s k a p = p
+noted Report s k a p = p
+
+-- a refused call is not noted, but for 10
+unfoldable pub note : Asked → State → ℕ → List ℕ → Past → Past
+note x s k a p = if eqb k 0 || eqb k 10 then noted x s k a p else p
+
+-- ---- calls one after another, each with an answer slice of its own
+
+pub record Spoken : Type 0 where
+  pub call : Asked
+  pub slice : List ℕ
+
+-- the pool after them
+unfoldable pub poolAll : List Spoken → List ℕ → List ℕ
+poolAll [] p = p
+poolAll (c ∷ cs) p = poolAll cs (poolAfter (c .call) p (c .slice))
+
+-- what they told, of each whose slice was not short: the number, and the first 16 words of the slice
+unfoldable pub toldAll : List Spoken → List ℕ → List (ℕ × List ℕ)
+toldAll [] p = []
+toldAll (c ∷ cs) p =
+    let z = spoken (c .call) p (c .slice) in
+    let r = toldAll cs (z .0 .0) in
+    if short (c .slice) then r else (z .1, take 16 (z .0 .1)) ∷ r
+
+-- what a caller has noted after them, on top of y
+unfoldable pub notedAll : List Spoken → List ℕ → Past → Past
+notedAll [] p y = y
+notedAll (c ∷ cs) p y =
+    let z = spoken (c .call) p (c .slice) in notedAll cs (z .0 .0) (note (c .call) (stateIn (z .0 .0)) (z .1) (z .0 .1) y)
+
+-- those whose slice was not short
+unfoldable pub heeded : List Spoken → List Asked
+heeded [] = []
+heeded (c ∷ cs) = let r = heeded cs in if short (c .slice) then r else c .call ∷ r
+
+-- the machine's calls that they amount to
+abbrev pub callsIn : List Spoken → List ℕ → List Call
+callsIn cs p = callsOf (heeded cs) p
+
+-- the number and the 16 words of each of the machine's answers
+unfoldable pub tellings : List Reply → List (ℕ × List ℕ)
+tellings [] = []
+tellings (r ∷ rs) = (refusal r, listTo 16 (λ (j : ℕ). word j r)) ∷ tellings rs
