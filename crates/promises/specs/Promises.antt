@@ -1,18 +1,25 @@
 -- The promises: the three demands, stated of the calls that C makes. No proof stands here; each statement is proved in Proofs under its own name.
 -- Rests on Said for what a call is and what a caller notes of it, and on theorems' Terms for what is right for a value, a page and a price.
 use Prim.Native.Nat.{_*_, _+_, _<_, _≤_, ℕ}
+use mathlib.Core.Bool.{true}
 use mathlib.Core.List.{List}
 use mathlib.Core.Path.{_≡_}
 use lib.ListN.{getD, length}
-use Rattle.bridge.specs.Asked.{Asked, Step, callOf}
+use Rattle.bridge.specs.Asked.{Asked, Open, Step, callOf}
 use Rattle.bridge.specs.Sound.{Sound}
 use Rattle.pool.specs.declared.Header.the-variants as header
+use Rattle.pool.specs.Header.{sizesOf}
 use Rattle.pool.specs.Places.{blockBase}
-use Rattle.pool.specs.Pool.{viewOf}
+use Rattle.pool.specs.Pool.{lieOf, viewOf}
+use Rattle.rulebook.specs.Answers.{operation}
 use Rattle.rulebook.specs.declared.Sizes.{Sizes}
+use Rattle.rulebook.specs.History.{Ended, Past, Value, fresh, past, run, setsBound, tableOf, workCode}
+use Rattle.rulebook.specs.Machine.{Call}
 use Rattle.rulebook.specs.Sizes.{blockWords}
-use Rattle.theorems.specs.Terms.{Harmless, causes, due}
-use Rattle.promises.specs.Said.{answerAfter, numberOf, poolAfter, spoken, storeOf, wordOf}
+use Rattle.rulebook.specs.Starts.{opened}
+use Rattle.rulebook.specs.State.{State, busy, liveHandle, taskAt}
+use Rattle.theorems.specs.Terms.{Every, Harmless, HasGiven, In, IsRead, Once, Spent, byCell, causes, cellsOf, due, onVersion, price, shown, upTo, valuesOf}
+use Rattle.promises.specs.Said.{Spoken, answerAfter, callsIn, notedAll, numberOf, poolAfter, poolAll, spoken, stateIn, storeOf, tellings, toldAll, wordOf}
 
 -- ---- demand 1: of every call, every pool, every argument and every answer slice
 
@@ -51,3 +58,101 @@ RefusalDue = (x : Asked) (p a : List ℕ) (d : Sizes) → Sound d p → 16 ≤ l
 -- On a pool that passes the check, a step refused 10 found every block held; it leaves its task idle, its slot free, and every live version's values as they were.
 abbrev pub TenHarmless : Type 0
 TenHarmless = (t : ℕ) (p a : List ℕ) (d : Sizes) → Sound d p → numberOf (Step t) p a ≡ 10 → Harmless (viewOf d p) t (viewOf d (poolAfter (Step t) p a))
+
+-- ---- a kept store: any pool, an open that returned 0, and then any calls with any arguments and answer slices, and nothing else
+
+pub record Kept : Type 0 where
+  pub words : List ℕ
+  pub cells : ℕ
+  pub handles : ℕ
+  pub tasks : ℕ
+  pub slice : List ℕ
+  pub accepted : numberOf (Open cells handles tasks) words slice ≡ 0
+  pub calls : List Spoken
+
+module _ (k : Kept) where
+  -- the pool as open left it, and as it is after the calls
+  abbrev pub poolFirst : List ℕ
+  poolFirst = poolAfter (Open (k .cells) (k .handles) (k .tasks)) (k .words) (k .slice)
+
+  abbrev pub poolLast : List ℕ
+  poolLast = poolAll (k .calls) poolFirst
+
+  -- what the caller has noted: from the numbers returned, the answer slices, and what the pool shows
+  abbrev pub diary : Past
+  diary = notedAll (k .calls) poolFirst (fresh (stateIn poolFirst))
+
+  -- the cells of a table
+  abbrev pub N : ℕ
+  N = diary .store .sizes .n
+
+  -- the machine's opened state, and the machine's calls; a call with a short slice is none
+  abbrev pub machineFirst : State
+  machineFirst = opened (k .cells) (k .handles) (k .tasks) (length (k .words)) (lieOf (sizesOf (k .cells) (k .handles) (k .tasks) (length (k .words))) (k .words))
+
+  abbrev pub machineCalls : List Call
+  machineCalls = callsIn (k .calls) poolFirst
+
+  -- ---- demand 2: of every kept store
+
+  -- Each call does to the store what the rule book's machine does: the pool shows the machine's state.
+  abbrev pub MachineState : Type 0
+  MachineState = stateIn poolLast ≡ run machineFirst machineCalls .0
+
+  -- Each call answers what the machine answers: the number, and all 16 words.
+  abbrev pub MachineAnswers : Type 0
+  MachineAnswers = toldAll (k .calls) poolFirst ≡ tellings (run machineFirst machineCalls .1)
+
+  -- What the caller has noted is the machine's history, to the last figure.
+  abbrev pub MachineHistory : Type 0
+  MachineHistory = diary ≡ past machineFirst machineCalls
+
+  -- The pool passes the check.
+  abbrev pub StaysSound : Type 0
+  StaysSound = (d : Sizes) × Sound d poolLast
+
+  -- Every value that a get ended with, and every value that a page handed out, is the functional array's value of that version at that cell.
+  abbrev pub Reads : Type 0
+  Reads = Every (IsRead diary) (diary .gets) × Every (IsRead diary) (diary .pages)
+
+  -- Each get and page that has ended has handed out its cells, each once, in rising order, and nothing else.
+  abbrev pub ReadsInOrder : Type 0
+  ReadsInOrder = Every (λ (e : Ended). HasGiven diary (e .work) (e .given)) (diary .ends)
+
+  -- Where the pages on one version have handed out each cell once, their values by cell are exactly that version's table, whatever was called between.
+  abbrev pub PagesJoin : Type 0
+  PagesJoin = (h : ℕ) → let l = byCell (onVersion h (diary .pages)) in cellsOf l ≡ upTo N → valuesOf l ≡ tableOf (diary .versions) h
+
+  -- So for any choice of hand-outs of one version that covers each cell once.
+  abbrev pub PagesJoinAny : Type 0
+  PagesJoinAny = (h : ℕ) (l : List Value) → Every (λ (r : Value). In r (diary .pages) × (r .handle ≡ h)) l → cellsOf l ≡ upTo N → valuesOf l ≡ tableOf (diary .versions) h
+
+  -- What a live handle shows is its version's table, as the functional array's new and set have made it.
+  abbrev pub Tables : Type 0
+  Tables = (h : ℕ) → liveHandle (diary .store) h ≡ true → shown (diary .store) h ≡ tableOf (diary .versions) h
+
+  -- No public number was given to two versions.
+  abbrev pub NumbersOnce : Type 0
+  NumbersOnce = Once (diary .versions)
+
+  -- ---- demand 3: of every kept store
+
+  -- All steps spent by sets, unfinished ones too, are at most 12 for each set that found its version not yet set and 5N + 3 for each later one.
+  abbrev pub SetsBound : Type 0
+  SetsBound = diary .setSteps ≤ setsBound N (diary .firsts) (diary .laters)
+
+  -- No get took more than 3 steps and the binary digits of N, no page more than so many for each cell; a set at most 5N + 3, a new N + 1.
+  abbrev pub Priced : Type 0
+  Priced = Every (λ (e : Ended). e .told ≤ price N (e .work)) (diary .ends)
+
+  -- A busy task has always taken fewer steps than its price, in any order of the tasks' steps.
+  abbrev pub BusyBelow : Type 0
+  BusyBelow = (t : ℕ) → busy (taskAt (diary .store) t .stage) ≡ true → diary .counts t < price N (diary .works t)
+
+  -- The steps that a final answer tells are the accepted step calls of that task since its start, one refused 10 counted.
+  abbrev pub StepsCounted : Type 0
+  StepsCounted = Every (λ (e : Ended). e .told ≡ e .counted) (diary .ends)
+
+  -- Exactly: new takes N + 1, a set in place 4, a copying set 3 + 4N and its probes; 10 comes at step 1 of a new and at step 2 of a set.
+  abbrev pub StepsExact : Type 0
+  StepsExact = Every (λ (e : Ended). (operation (e .last) ≡ workCode (e .work)) × Spent N (e .last) (e .told) (e .probes)) (diary .ends)

@@ -3,3 +3,6 @@
 pub mod Calls
 pub mod Refusals
 pub mod One
+pub mod Histories
+pub mod Two
+pub mod Three

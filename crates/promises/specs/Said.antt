@@ -127,8 +127,8 @@ over m q l g w a =
     if ends a then record { work = w; last = g; given = l; told = wordOf a 1; counted = m; probes = q } ∷ [] else []
 
 -- an accepted step of task t, started for w
-unfoldable pub stepped : Work → ℕ → State → ℕ → List ℕ → Past → Past
-stepped w t s k a p =
+unfoldable pub steppedBy : Work → ℕ → State → ℕ → List ℕ → Past → Past
+steppedBy w t s k a p =
     let g = taskAt (p .store) t .stage in
     let m = p .counts t + 1 in
     let q = p .probes t + one (probing g) in
@@ -148,24 +148,24 @@ stepped w t s k a p =
       laters = p .laters + one (exchanges g && not (notYetSet (p .store) t));
     }
 
-unfoldable pub noted : Asked → State → ℕ → List ℕ → Past → Past
-noted (Open n h t) s k a p = fresh s
-noted (New t v) s k a p = started (making v) t s p
-noted (Get t h i) s k a p = started (reading h i) t s p
-noted (Set t h i v) s k a p = started (setting h i v) t s p
-noted (Page t h from m) s k a p = started (paging h from m) t s p
-noted (Step t) s k a p = stepped (p .works t) t s k a p
-noted (Release h) s k a p = released s p
-noted (LookVersion b) s k a p = p
-noted (LookCell b i) s k a p = p
-noted (LookLog b i) s k a p = p
-noted (LookEntry b i j) s k a p = p
-noted (LookTask t) s k a p = p
-noted Report s k a p = p
+unfoldable pub notedBy : Asked → State → ℕ → List ℕ → Past → Past
+notedBy (Open n h t) s k a p = fresh s
+notedBy (New t v) s k a p = started (making v) t s p
+notedBy (Get t h i) s k a p = started (reading h i) t s p
+notedBy (Set t h i v) s k a p = started (setting h i v) t s p
+notedBy (Page t h from m) s k a p = started (paging h from m) t s p
+notedBy (Step t) s k a p = steppedBy (p .works t) t s k a p
+notedBy (Release h) s k a p = released s p
+notedBy (LookVersion b) s k a p = p
+notedBy (LookCell b i) s k a p = p
+notedBy (LookLog b i) s k a p = p
+notedBy (LookEntry b i j) s k a p = p
+notedBy (LookTask t) s k a p = p
+notedBy Report s k a p = p
 
 -- a refused call is not noted, but for 10
-unfoldable pub note : Asked → State → ℕ → List ℕ → Past → Past
-note x s k a p = if eqb k 0 || eqb k 10 then noted x s k a p else p
+unfoldable pub notes : Asked → State → ℕ → List ℕ → Past → Past
+notes x s k a p = if eqb k 0 || eqb k 10 then notedBy x s k a p else p
 
 -- ---- calls one after another, each with an answer slice of its own
 
@@ -190,7 +190,7 @@ toldAll (c ∷ cs) p =
 unfoldable pub notedAll : List Spoken → List ℕ → Past → Past
 notedAll [] p y = y
 notedAll (c ∷ cs) p y =
-    let z = spoken (c .call) p (c .slice) in notedAll cs (z .0 .0) (note (c .call) (stateIn (z .0 .0)) (z .1) (z .0 .1) y)
+    let z = spoken (c .call) p (c .slice) in notedAll cs (z .0 .0) (notes (c .call) (stateIn (z .0 .0)) (z .1) (z .0 .1) y)
 
 -- those whose slice was not short
 unfoldable pub heeded : List Spoken → List Asked
