@@ -1,25 +1,25 @@
 -- The promises: the three demands, stated of the calls that C makes. No proof stands here; each statement is proved in Proofs under its own name.
 -- Rests on Said for what a call is and what a caller notes of it, and on theorems' Terms for what is right for a value, a page and a price.
 use Prim.Native.Nat.{_*_, _+_, _<_, _≤_, ℕ}
-use mathlib.Core.Bool.{true}
+use mathlib.Core.Bool.{false, true}
 use mathlib.Core.List.{List}
 use mathlib.Core.Path.{_≡_}
 use lib.ListN.{getD, length}
 use Rattle.bridge.specs.Asked.{Asked, Open, Step, callOf}
 use Rattle.bridge.specs.Sound.{Sound}
 use Rattle.pool.specs.declared.Header.the-variants as header
-use Rattle.pool.specs.Header.{sizesOf}
+use Rattle.pool.specs.Header.{headerOf, sizesOf}
 use Rattle.pool.specs.Places.{blockBase}
 use Rattle.pool.specs.Pool.{lieOf, viewOf}
 use Rattle.rulebook.specs.Answers.{operation}
 use Rattle.rulebook.specs.declared.Sizes.{Sizes}
 use Rattle.rulebook.specs.History.{Ended, Past, Value, fresh, past, run, setsBound, tableOf, workCode}
 use Rattle.rulebook.specs.Machine.{Call}
-use Rattle.rulebook.specs.Sizes.{blockWords}
+use Rattle.rulebook.specs.Sizes.{blockWords, if_then_else_, opens}
 use Rattle.rulebook.specs.Starts.{opened}
 use Rattle.rulebook.specs.State.{State, busy, liveHandle, taskAt}
 use Rattle.theorems.specs.Terms.{Every, Harmless, HasGiven, In, IsRead, Once, Spent, byCell, causes, cellsOf, due, onVersion, price, shown, upTo, valuesOf}
-use Rattle.promises.specs.Said.{Spoken, answerAfter, callsIn, notedAll, numberOf, poolAfter, poolAll, spoken, stateIn, storeOf, tellings, toldAll, wordOf}
+use Rattle.promises.specs.Said.{Spoken, answerAfter, callsIn, isOpen, notedAll, numberOf, poolAfter, poolAll, spoken, stateIn, storeOf, tellings, toldAll, wordOf}
 
 -- ---- demand 1: of every call, every pool, every argument and every answer slice
 
@@ -51,13 +51,22 @@ RefusalKeeps = (x : Asked) (p a : List ℕ) → (numberOf x p a ≡ 0 → ⊥) �
 abbrev pub RefusalZeros : Type 0
 RefusalZeros = (x : Asked) (p a : List ℕ) → 16 ≤ length a → (numberOf x p a ≡ 0 → ⊥) → (numberOf x p a ≡ 10 → ⊥) → (j : ℕ) → j < 16 → wordOf (answerAfter x p a) j ≡ 0
 
+-- On any pool open returns 0 where N, H and T are within their limits and there is room for a block, else 3, whatever the words are.
+abbrev pub OpenDue : Type 0
+OpenDue = (n h t : ℕ) (p a : List ℕ) → 16 ≤ length a → numberOf (Open n h t) p a ≡ (if opens n h t (length p) then 0 else 3)
+
+-- Every other call returns 1 where words 0 to 5 do not describe the pool, whatever its arguments are.
+abbrev pub Undescribed : Type 0
+Undescribed = (x : Asked) (p a : List ℕ) → isOpen x ≡ false → 16 ≤ length a → headerOf p ≡ header.Bad → numberOf x p a ≡ 1
+
 -- On a pool that passes the check, each number is returned exactly when document 01's table says, in its order, and 0 where no row applies.
 abbrev pub RefusalDue : Type 0
 RefusalDue = (x : Asked) (p a : List ℕ) (d : Sizes) → Sound d p → 16 ≤ length a → numberOf x p a ≡ due (causes (callOf x p) (viewOf d p))
 
--- On a pool that passes the check, a step refused 10 found every block held; it leaves its task idle, its slot free, and every live version's values as they were.
+-- On a pool that passes the check, only a step is refused 10: it found every block held, and leaves its task idle, its slot free, every block as it was
+-- (so an exchange stays), and every live version live with the values that it had.
 abbrev pub TenHarmless : Type 0
-TenHarmless = (t : ℕ) (p a : List ℕ) (d : Sizes) → Sound d p → numberOf (Step t) p a ≡ 10 → Harmless (viewOf d p) t (viewOf d (poolAfter (Step t) p a))
+TenHarmless = (x : Asked) (p a : List ℕ) (d : Sizes) → Sound d p → numberOf x p a ≡ 10 → (t : ℕ) × (x ≡ Step t) × Harmless (viewOf d p) t (viewOf d (poolAfter x p a))
 
 -- ---- a kept store: any pool, an open that returned 0, and then any calls with any arguments and answer slices, and nothing else
 

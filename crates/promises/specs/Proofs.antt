@@ -3,6 +3,7 @@
 pub mod Calls
 pub mod Refusals
 pub mod One
+pub mod Numbers
 pub mod Histories
 pub mod Two
 pub mod Three

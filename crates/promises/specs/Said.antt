@@ -1,7 +1,7 @@
 -- Calls as C makes them: what a call leaves of the pool and the answer slice, the number that it returns, and what a caller notes of it.
 -- Each clause of `spoken` is the right side of that C function's contract. Rests on winchclover, bridge's Asked and the rule book's histories.
 use Prim.Native.Nat.{_+_, ℕ}
-use mathlib.Core.Bool.{Bool, _&&_, _||_, not}
+use mathlib.Core.Bool.{Bool, _&&_, _||_, false, not, true}
 use mathlib.Core.List.{List, [], _++_, _∷_}
 use lib.Dec.{eqb, ltb}
 use lib.ListN.{getD, length, take}
@@ -71,6 +71,21 @@ storeOf (LookLog b i) p = headerOf p
 storeOf (LookEntry b i j) p = headerOf p
 storeOf (LookTask t) p = headerOf p
 storeOf Report p = headerOf p
+
+abbrev pub isOpen : Asked → Bool
+isOpen (Open n h t) = true
+isOpen (New t v) = false
+isOpen (Get t h i) = false
+isOpen (Set t h i v) = false
+isOpen (Page t h from m) = false
+isOpen (Step t) = false
+isOpen (Release h) = false
+isOpen (LookVersion b) = false
+isOpen (LookCell b i) = false
+isOpen (LookLog b i) = false
+isOpen (LookEntry b i j) = false
+isOpen (LookTask t) = false
+isOpen Report = false
 
 -- word j of an answer slice
 abbrev pub wordOf : List ℕ → ℕ → ℕ

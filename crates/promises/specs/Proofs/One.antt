@@ -1,5 +1,5 @@
 -- Demand 1: what every call keeps, on any pool.
--- Rests on Calls, Refusals, the plans' reach and the pool's laws; for 10 and the table, on the bridge and the machine's theorems.
+-- Rests on Calls, Refusals, the plans' reach and the pool's laws.
 use Prim.Native.Nat.{_*_, _+_, _-_, _<_, _≤_, ℕ}
 use mathlib.Core.Bool.{true}
 use mathlib.Core.List.{List}
@@ -13,9 +13,7 @@ use borrow.Author.Tests.{eqb-true, le-ltb, lt-ltb, ltb-false}
 use Rattle.acts.specs.declared.Act.{Act}
 use Rattle.acts.specs.Plans.{planGet, planNew, planPage, planRelease, planSet, planStep, refused}
 use Rattle.acts.specs.Sight.{Sight}
-use Rattle.bridge.specs.Asked.{Asked, Get, LookCell, LookEntry, LookLog, LookTask, LookVersion, New, Open, Page, Release, Report, Set, Step, asked, callOf, sizesAfter}
-use Rattle.bridge.specs.Bridge.{bridge}
-use Rattle.bridge.specs.Shown.{sound-shape}
+use Rattle.bridge.specs.Asked.{Asked, Get, LookCell, LookEntry, LookLog, LookTask, LookVersion, New, Open, Page, Release, Report, Set, Step, asked}
 use Rattle.pool.specs.Acts.{applied-answers, applied-done, applied-keeps, applied-not}
 use Rattle.pool.specs.Calls.{calledIn, releaseIn, startGetIn, startNewIn, startPageIn, startSetIn, stepIn}
 use Rattle.pool.specs.declared.Header.{Header}
@@ -23,32 +21,19 @@ use Rattle.pool.specs.declared.Header.the-variants as header
 use Rattle.pool.specs.Header.{headerOf, sizesIn, sizesOf}
 use Rattle.pool.specs.Opened.{open-length, open-not, open-reply, open-rest}
 use Rattle.pool.specs.Places.{Spans, blockBase}
-use Rattle.pool.specs.Pool.{InReach, appliedIn, openIn, sight, touchedIn, viewOf}
+use Rattle.pool.specs.Pool.{InReach, appliedIn, openIn, sight, touchedIn}
 use Rattle.pool.specs.Sizing.{header-spans}
 use Rattle.rulebook.specs.Answers.{refusal, word}
 use Rattle.rulebook.specs.declared.Reply.{Reply}
 use Rattle.rulebook.specs.declared.Reply.the-variants as reply
 use Rattle.rulebook.specs.declared.Sizes.{Sizes}
-use Rattle.rulebook.specs.declared.Status.the-variants.{Live}
 use Rattle.rulebook.specs.History.{accepted}
 use Rattle.rulebook.specs.Lists.{listTo-get, listTo-length}
-use Rattle.rulebook.specs.Machine as machine
-use Rattle.rulebook.specs.Machine.{call}
 use Rattle.rulebook.specs.Sizes.{blockWords, opens}
-use Rattle.rulebook.specs.State.{State, listTo, slotAt}
-use Rattle.rulebook.specs.Steps.{step}
+use Rattle.rulebook.specs.State.{listTo}
 use Rattle.rulebook.specs.Tests.{by-test}
-use Rattle.rules.specs.Blind.{erase-call}
-use Rattle.rules.specs.Erase.{erase, erase-shape}
-use Rattle.rules.specs.Kept.{rules-inv}
-use Rattle.rules.specs.Rules.{Rules}
 use Rattle.store.specs.Reach.{get-reaches, new-reaches, page-reaches, release-reaches, set-reaches, step-reaches}
-use Rattle.theorems.specs.Invariant.Shape.{Shape}
-use Rattle.theorems.specs.Invariant.Steps.{inv-step}
-use Rattle.theorems.specs.Proofs.Causes.{fits-call}
-use Rattle.theorems.specs.Proofs.Ten as ten
-use Rattle.theorems.specs.Terms.{Harmless, causes, due}
-use Rattle.promises.specs.Promises.{AnswerLength, AnswerRest, PoolLength, PoolRest, RefusalDue, RefusalKeeps, RefusalZeros, ShortSlice, TenHarmless}
+use Rattle.promises.specs.Promises.{AnswerLength, AnswerRest, PoolLength, PoolRest, RefusalKeeps, RefusalZeros, ShortSlice}
 use Rattle.promises.specs.Proofs.Calls.{spoken-case, spoken-long, spoken-short, telling}
 use Rattle.promises.specs.Proofs.Refusals.{Fair, get-fair, new-fair, page-fair, release-fair, set-fair, step-fair}
 use Rattle.promises.specs.Said.{Outcome, storeOf}
@@ -214,25 +199,3 @@ pub refusal-zeros : RefusalZeros
 refusal-zeros x p a l =
     subst⁻¹ (λ (z : Outcome). (z .1 ≡ 0 → ⊥) → (z .1 ≡ 10 → ⊥) → (j : ℕ) → j < 16 → getD (z .0 .1) j 0 ≡ 0) (spoken-long x p a (le-ltb (length a) 16 l))
     (λ u v j m. telling-word (asked x p .1) a j m ∙ refuses-zeros (asked x p .1) (u, v) j)
-
--- ---- on a pool that passes the check
-
-pub refusal-due : RefusalDue
-refusal-due x p a d S l =
-    subst⁻¹ (λ (z : Outcome). z .1 ≡ due (causes (callOf x p) (viewOf d p))) (spoken-long x p a (le-ltb (length a) 16 l))
-    (ap refusal (bridge x S .reply) ∙ fits-call (viewOf d p) (callOf x p) .is-due)
-
--- a step leaves the slots of live handles as they were: it does not look at amounts, and from a store with none the invariant says so
-live-slots : (s : State) → Shape s → Rules s → (t j : ℕ) → slotAt s j .status ≡ Live → slotAt (step s t .0) j ≡ slotAt s j
-unfolding call
-live-slots s sh r t j l =
-    ap (λ (x : State). slotAt x j) (erase-call (machine.Step t) s) ∙ inv-step (erase s) (erase-shape s sh) (rules-inv s r) t .1 j l .0
-
-pub ten-harmless : TenHarmless
-unfolding callOf sizesAfter call
-ten-harmless t p a d S =
-    let b = bridge (Step t) S in
-    let s = viewOf d p in
-    spoken-case (Step t) p a (λ (z : Outcome). z .1 ≡ 10 → Harmless s t (viewOf d (z .0 .0)))
-    (λ _ e. absurd (let q : _≡_ {A = ℕ} 15 10 = e in omega arith))
-    (λ _ e. subst⁻¹ (Harmless s t) (b .state) (ten.ten-harmless s (sound-shape d p S) t (live-slots s (sound-shape d p S) (S .rules) t) (ap refusal (sym (b .reply)) ∙ e)))

@@ -1,0 +1,134 @@
+-- Demand 1: which number is returned: on any pool before the store is looked at, on a pool that passes the check by document 01's table; and what 10 leaves.
+-- Rests on Calls, the bridge and the machine's theorems.
+use Prim.Native.Nat.{ℕ}
+use mathlib.Core.Bool.{Bool, false, true≢false}
+use mathlib.Core.List.{List, [], _∷_}
+use mathlib.Core.Path.{_∙_, _≡_, ap, refl, subst⁻¹, sym}
+use native.Mathlib.Omega.{arith}
+use lib.Dec.{eqb}
+use lib.ListN.{length}
+use borrow.Author.Tests.{eqb-false, le-ltb}
+use Rattle.acts.specs.declared.Act.{Act}
+use Rattle.acts.specs.Sight.{Sight}
+use Rattle.bridge.specs.Asked.{Asked, Get, LookCell, LookEntry, LookLog, LookTask, LookVersion, New, Open, Page, Release, Report, Set, Step, asked, callOf, sizesAfter}
+use Rattle.bridge.specs.Bridge.{bridge}
+use Rattle.bridge.specs.Shown.{sound-shape}
+use Rattle.bridge.specs.Sound.{Sound}
+use Rattle.pool.specs.Calls.{calledIn, lookCellIn, lookEntryIn, lookLogIn, lookTaskIn, lookVersionIn, releaseIn, reportIn, seenIn, startGetIn, startNewIn, startPageIn, startSetIn, stepIn}
+use Rattle.pool.specs.declared.Header.{Header}
+use Rattle.pool.specs.declared.Header.the-variants as header
+use Rattle.pool.specs.Header.{headerOf}
+use Rattle.pool.specs.Opened.{open-not, open-reply}
+use Rattle.pool.specs.Pool.{viewOf}
+use Rattle.rulebook.specs.Answers.{refusal}
+use Rattle.rulebook.specs.declared.Reply.{Reply}
+use Rattle.rulebook.specs.declared.Sizes.{Sizes}
+use Rattle.rulebook.specs.declared.Status.the-variants.{Live}
+use Rattle.rulebook.specs.Machine as machine
+use Rattle.rulebook.specs.Machine.{call}
+use Rattle.rulebook.specs.Sizes.{if_then_else_, opens}
+use Rattle.rulebook.specs.State.{State, slotAt}
+use Rattle.rulebook.specs.Steps.{step}
+use Rattle.rulebook.specs.Tests.{by-test}
+use Rattle.rules.specs.Blind.{erase-call}
+use Rattle.rules.specs.Erase.{erase, erase-shape}
+use Rattle.rules.specs.Kept.{rules-inv}
+use Rattle.rules.specs.Rules.{Rules}
+use Rattle.theorems.specs.Invariant.Shape.{Shape}
+use Rattle.theorems.specs.Invariant.Steps.{inv-step}
+use Rattle.theorems.specs.Proofs.Causes.{fits-call}
+use Rattle.theorems.specs.Proofs.Ten as ten
+use Rattle.theorems.specs.Terms.{Every, Harmless, causes, due, more, none}
+use Rattle.promises.specs.Promises.{OpenDue, RefusalDue, TenHarmless, Undescribed}
+use Rattle.promises.specs.Proofs.Calls.{spoken-case, spoken-long}
+use Rattle.promises.specs.Said.{Outcome, isOpen, numberOf, poolAfter}
+
+-- ---- before the store is looked at
+
+pub open-due : OpenDue
+unfolding asked
+open-due n h t p a l =
+    subst⁻¹ (λ (z : Outcome). z .1 ≡ (if opens n h t (length p) then 0 else 3)) (spoken-long (Open n h t) p a (le-ltb (length a) 16 l))
+    (by-test (opens n h t (length p)) (λ o. rw o (ap refusal (open-reply p n h t o))) (λ o. rw o (ap (λ (z : List ℕ × Reply). refusal (z .1)) (open-not p n h t o))))
+
+-- 1, whatever is planned or looked for
+called-bad : (r : Header) (p : List ℕ) (f : Sight → Act) → r ≡ header.Bad → refusal (calledIn r p f .1) ≡ 1
+unfolding calledIn
+called-bad r p f e = rw e
+
+seen-bad : (r : Header) (p : List ℕ) (f : Sight → Reply) → r ≡ header.Bad → refusal (seenIn r p f) ≡ 1
+unfolding seenIn
+seen-bad r p f e = rw e
+
+asked-bad : (x : Asked) (p : List ℕ) → isOpen x ≡ false → headerOf p ≡ header.Bad → refusal (asked x p .1) ≡ 1
+unfolding asked startNewIn startGetIn startSetIn startPageIn stepIn releaseIn lookVersionIn lookCellIn lookLogIn lookEntryIn lookTaskIn reportIn
+asked-bad (Open n h t) p o e = absurd (true≢false o)
+asked-bad (New t v) p o e = called-bad (headerOf p) p _ e
+asked-bad (Get t h i) p o e = called-bad (headerOf p) p _ e
+asked-bad (Set t h i v) p o e = called-bad (headerOf p) p _ e
+asked-bad (Page t h from m) p o e = called-bad (headerOf p) p _ e
+asked-bad (Step t) p o e = called-bad (headerOf p) p _ e
+asked-bad (Release h) p o e = called-bad (headerOf p) p _ e
+asked-bad (LookVersion b) p o e = seen-bad (headerOf p) p _ e
+asked-bad (LookCell b i) p o e = seen-bad (headerOf p) p _ e
+asked-bad (LookLog b i) p o e = seen-bad (headerOf p) p _ e
+asked-bad (LookEntry b i j) p o e = seen-bad (headerOf p) p _ e
+asked-bad (LookTask t) p o e = seen-bad (headerOf p) p _ e
+asked-bad Report p o e = seen-bad (headerOf p) p _ e
+
+pub undescribed : Undescribed
+undescribed x p a o l e = subst⁻¹ (λ (z : Outcome). z .1 ≡ 1) (spoken-long x p a (le-ltb (length a) 16 l)) (asked-bad x p o e)
+
+-- ---- on a pool that passes the check
+
+pub refusal-due : RefusalDue
+refusal-due x p a d S l =
+    subst⁻¹ (λ (z : Outcome). z .1 ≡ due (causes (callOf x p) (viewOf d p))) (spoken-long x p a (le-ltb (length a) 16 l))
+    (ap refusal (bridge x S .reply) ∙ fits-call (viewOf d p) (callOf x p) .is-due)
+
+-- a step leaves the slots of live handles as they were: it does not look at amounts, and from a store with none the invariant says so
+live-slots : (s : State) → Shape s → Rules s → (t j : ℕ) → slotAt s j .status ≡ Live → slotAt (step s t .0) j ≡ slotAt s j
+unfolding call
+live-slots s sh r t j l =
+    ap (λ (x : State). slotAt x j) (erase-call (machine.Step t) s) ∙ inv-step (erase s) (erase-shape s sh) (rules-inv s r) t .1 j l .0
+
+step-harmless : (t : ℕ) (p a : List ℕ) (d : Sizes) → Sound d p → numberOf (Step t) p a ≡ 10 → Harmless (viewOf d p) t (viewOf d (poolAfter (Step t) p a))
+unfolding callOf sizesAfter call
+step-harmless t p a d S =
+    let b = bridge (Step t) S in
+    let s = viewOf d p in
+    spoken-case (Step t) p a (λ (z : Outcome). z .1 ≡ 10 → Harmless s t (viewOf d (z .0 .0)))
+    (λ _ e. absurd (let q : _≡_ {A = ℕ} 15 10 = e in omega arith))
+    (λ _ e. subst⁻¹ (Harmless s t) (b .state) (ten.ten-harmless s (sound-shape d p S) t (live-slots s (sound-shape d p S) (S .rules) t) (ap refusal (sym (b .reply)) ∙ e)))
+
+-- no row of the table is 10
+abbrev NoTen : List (Bool × ℕ) → Type 0
+NoTen l = Every (λ (c : Bool × ℕ). eqb (c .1) 10 ≡ false) l
+
+due-not : (l : List (Bool × ℕ)) → NoTen l → due l ≡ 10 → ⊥
+unfolding due
+due-not [] none e = let z : _≡_ {A = ℕ} 0 10 = e in omega arith
+due-not (c ∷ cs) (more h m) e = by-test (c .0) (λ b. eqb-false (c .1) 10 h (rw b at e)) (λ b. due-not cs m (rw b at e))
+
+-- so the call is never refused 10
+never-ten : {Q : Type 0} (x : Asked) (p a : List ℕ) (d : Sizes) → Sound d p → NoTen (causes (callOf x p) (viewOf d p)) → numberOf x p a ≡ 10 → Q
+never-ten {Q} x p a d S rows =
+    spoken-case x p a (λ (z : Outcome). z .1 ≡ 10 → Q)
+    (λ _ e. absurd (let q : _≡_ {A = ℕ} 15 10 = e in omega arith))
+    (λ _ e. absurd (due-not (causes (callOf x p) (viewOf d p)) rows (sym (ap refusal (bridge x S .reply) ∙ fits-call (viewOf d p) (callOf x p) .is-due) ∙ e)))
+
+pub ten-harmless : TenHarmless
+unfolding callOf
+ten-harmless (Open n h t) p a d S = never-ten (Open n h t) p a d S (more refl none)
+ten-harmless (New t v) p a d S = never-ten (New t v) p a d S (more refl (more refl (more refl none)))
+ten-harmless (Get t h i) p a d S = never-ten (Get t h i) p a d S (more refl (more refl (more refl (more refl none))))
+ten-harmless (Set t h i v) p a d S = never-ten (Set t h i v) p a d S (more refl (more refl (more refl (more refl (more refl none)))))
+ten-harmless (Page t h i m) p a d S = never-ten (Page t h i m) p a d S (more refl (more refl (more refl (more refl (more refl none)))))
+ten-harmless (Step t) p a d S = λ e. (t, refl, step-harmless t p a d S e)
+ten-harmless (Release h) p a d S = never-ten (Release h) p a d S (more refl (more refl none))
+ten-harmless (LookVersion b) p a d S = never-ten (LookVersion b) p a d S (more refl none)
+ten-harmless (LookCell b i) p a d S = never-ten (LookCell b i) p a d S (more refl (more refl none))
+ten-harmless (LookLog b i) p a d S = never-ten (LookLog b i) p a d S (more refl (more refl none))
+ten-harmless (LookEntry b i j) p a d S = never-ten (LookEntry b i j) p a d S (more refl (more refl (more refl none)))
+ten-harmless (LookTask t) p a d S = never-ten (LookTask t) p a d S (more refl none)
+ten-harmless Report p a d S = never-ten Report p a d S none
