@@ -19,149 +19,151 @@ use Rattle.rulebook.specs.Sizes.{blockWords, if_then_else_, opens}
 use Rattle.rulebook.specs.Starts.{opened}
 use Rattle.rulebook.specs.State.{State, busy, liveHandle, taskAt}
 use Rattle.theorems.specs.Terms.{Every, Harmless, HasGiven, In, IsRead, Once, Spent, byCell, causes, cellsOf, due, onVersion, price, shown, upTo, valuesOf}
-use Rattle.promises.specs.Said.{Spoken, answerAfter, callsIn, isOpen, notedAll, numberOf, poolAfter, poolAll, spoken, stateIn, storeOf, tellings, toldAll, wordOf}
+use Rattle.promises.specs.Said.{Build, Spoken, answerAfter, callsIn, isOpen, notedAll, numberOf, poolAfter, poolAll, stateIn, storeOf, tellings, toldAll, wordOf}
 
--- ---- demand 1: of every call, every pool, every argument and every answer slice
+-- f is a build of the C functions; the promises are made of `spoken`
+module _ (f : Build) where
+  -- ---- demand 1: of every call, every pool, every argument and every answer slice
 
--- The pool comes back as long as it was lent.
-abbrev pub PoolLength : Type 0
-PoolLength = (x : Asked) (p a : List ℕ) → length (poolAfter x p a) ≡ length p
+  -- The pool comes back as long as it was lent.
+  abbrev pub PoolLength : Type 0
+  PoolLength = (x : Asked) (p a : List ℕ) → length (poolAfter f x p a) ≡ length p
 
--- No word after the last block is written; an open counts the blocks of the store that it opens.
-abbrev pub PoolRest : Type 0
-PoolRest = (x : Asked) (p a : List ℕ) (d : Sizes) → storeOf x p ≡ header.Good d → (i : ℕ) → blockBase d + blockWords (d .n) * d .b ≤ i → getD (poolAfter x p a) i 0 ≡ getD p i 0
+  -- No word after the last block is written; an open counts the blocks of the store that it opens.
+  abbrev pub PoolRest : Type 0
+  PoolRest = (x : Asked) (p a : List ℕ) (d : Sizes) → storeOf x p ≡ header.Good d → (i : ℕ) → blockBase d + blockWords (d .n) * d .b ≤ i → getD (poolAfter f x p a) i 0 ≡ getD p i 0
 
--- The answer slice comes back as long as it was lent.
-abbrev pub AnswerLength : Type 0
-AnswerLength = (x : Asked) (p a : List ℕ) → length (answerAfter x p a) ≡ length a
+  -- The answer slice comes back as long as it was lent.
+  abbrev pub AnswerLength : Type 0
+  AnswerLength = (x : Asked) (p a : List ℕ) → length (answerAfter f x p a) ≡ length a
 
--- No word of the answer slice after its first 16 is written.
-abbrev pub AnswerRest : Type 0
-AnswerRest = (x : Asked) (p a : List ℕ) (j : ℕ) → 16 ≤ j → wordOf (answerAfter x p a) j ≡ wordOf a j
+  -- No word of the answer slice after its first 16 is written.
+  abbrev pub AnswerRest : Type 0
+  AnswerRest = (x : Asked) (p a : List ℕ) (j : ℕ) → 16 ≤ j → wordOf (answerAfter f x p a) j ≡ wordOf a j
 
--- A call with an answer slice under 16 words returns 15 and leaves pool and slice as they are, whatever else is wrong.
-abbrev pub ShortSlice : Type 0
-ShortSlice = (x : Asked) (p a : List ℕ) → length a < 16 → spoken x p a ≡ ((p, a), 15)
+  -- A call with an answer slice under 16 words returns 15 and leaves pool and slice as they are, whatever else is wrong.
+  abbrev pub ShortSlice : Type 0
+  ShortSlice = (x : Asked) (p a : List ℕ) → length a < 16 → f x p a ≡ ((p, a), 15)
 
--- A refusal other than 10 changes no word of the pool.
-abbrev pub RefusalKeeps : Type 0
-RefusalKeeps = (x : Asked) (p a : List ℕ) → (numberOf x p a ≡ 0 → ⊥) → (numberOf x p a ≡ 10 → ⊥) → poolAfter x p a ≡ p
+  -- A refusal other than 10 changes no word of the pool.
+  abbrev pub RefusalKeeps : Type 0
+  RefusalKeeps = (x : Asked) (p a : List ℕ) → (numberOf f x p a ≡ 0 → ⊥) → (numberOf f x p a ≡ 10 → ⊥) → poolAfter f x p a ≡ p
 
--- A refusal other than 10 answers 16 zeros.
-abbrev pub RefusalZeros : Type 0
-RefusalZeros = (x : Asked) (p a : List ℕ) → 16 ≤ length a → (numberOf x p a ≡ 0 → ⊥) → (numberOf x p a ≡ 10 → ⊥) → (j : ℕ) → j < 16 → wordOf (answerAfter x p a) j ≡ 0
+  -- A refusal other than 10 answers 16 zeros.
+  abbrev pub RefusalZeros : Type 0
+  RefusalZeros = (x : Asked) (p a : List ℕ) → 16 ≤ length a → (numberOf f x p a ≡ 0 → ⊥) → (numberOf f x p a ≡ 10 → ⊥) → (j : ℕ) → j < 16 → wordOf (answerAfter f x p a) j ≡ 0
 
--- On any pool open returns 0 where N, H and T are within their limits and there is room for a block, else 3, whatever the words are.
-abbrev pub OpenDue : Type 0
-OpenDue = (n h t : ℕ) (p a : List ℕ) → 16 ≤ length a → numberOf (Open n h t) p a ≡ (if opens n h t (length p) then 0 else 3)
+  -- On any pool open returns 0 where N, H and T are within their limits and there is room for a block, else 3, whatever the words are.
+  abbrev pub OpenDue : Type 0
+  OpenDue = (n h t : ℕ) (p a : List ℕ) → 16 ≤ length a → numberOf f (Open n h t) p a ≡ (if opens n h t (length p) then 0 else 3)
 
--- Every other call returns 1 where words 0 to 5 do not describe the pool, whatever its arguments are.
-abbrev pub Undescribed : Type 0
-Undescribed = (x : Asked) (p a : List ℕ) → isOpen x ≡ false → 16 ≤ length a → headerOf p ≡ header.Bad → numberOf x p a ≡ 1
+  -- Every other call returns 1 where words 0 to 5 do not describe the pool, whatever its arguments are.
+  abbrev pub Undescribed : Type 0
+  Undescribed = (x : Asked) (p a : List ℕ) → isOpen x ≡ false → 16 ≤ length a → headerOf p ≡ header.Bad → numberOf f x p a ≡ 1
 
--- On a pool that passes the check, each number is returned exactly when document 01's table says, in its order, and 0 where no row applies.
-abbrev pub RefusalDue : Type 0
-RefusalDue = (x : Asked) (p a : List ℕ) (d : Sizes) → Sound d p → 16 ≤ length a → numberOf x p a ≡ due (causes (callOf x p) (viewOf d p))
+  -- On a pool that passes the check, each number is returned exactly when document 01's table says, in its order, and 0 where no row applies.
+  abbrev pub RefusalDue : Type 0
+  RefusalDue = (x : Asked) (p a : List ℕ) (d : Sizes) → Sound d p → 16 ≤ length a → numberOf f x p a ≡ due (causes (callOf x p) (viewOf d p))
 
--- On a pool that passes the check, only a step is refused 10: it found every block held, and leaves its task idle, its slot free, every block as it was
--- (so an exchange stays), and every live version live with the values that it had.
-abbrev pub TenHarmless : Type 0
-TenHarmless = (x : Asked) (p a : List ℕ) (d : Sizes) → Sound d p → numberOf x p a ≡ 10 → (t : ℕ) × (x ≡ Step t) × Harmless (viewOf d p) t (viewOf d (poolAfter x p a))
+  -- On a pool that passes the check, only a step is refused 10: it found every block held, and leaves its task idle, its slot free, every block as it was
+  -- (so an exchange stays), and every live version live with the values that it had.
+  abbrev pub TenHarmless : Type 0
+  TenHarmless = (x : Asked) (p a : List ℕ) (d : Sizes) → Sound d p → numberOf f x p a ≡ 10 → (t : ℕ) × (x ≡ Step t) × Harmless (viewOf d p) t (viewOf d (poolAfter f x p a))
 
--- ---- a kept store: any pool, an open that returned 0, and then any calls with any arguments and answer slices, and nothing else
+  -- ---- a kept store: any pool, an open that returned 0, and then any calls with any arguments and answer slices, and nothing else
 
-pub record Kept : Type 0 where
-  pub words : List ℕ
-  pub cells : ℕ
-  pub handles : ℕ
-  pub tasks : ℕ
-  pub slice : List ℕ
-  pub accepted : numberOf (Open cells handles tasks) words slice ≡ 0
-  pub calls : List Spoken
+  pub record Kept : Type 0 where
+    pub words : List ℕ
+    pub cells : ℕ
+    pub handles : ℕ
+    pub tasks : ℕ
+    pub slice : List ℕ
+    pub accepted : numberOf f (Open cells handles tasks) words slice ≡ 0
+    pub calls : List Spoken
 
-module _ (k : Kept) where
-  -- the pool as open left it, and as it is after the calls
-  abbrev pub poolFirst : List ℕ
-  poolFirst = poolAfter (Open (k .cells) (k .handles) (k .tasks)) (k .words) (k .slice)
+  module _ (k : Kept) where
+    -- the pool as open left it, and as it is after the calls
+    abbrev pub poolFirst : List ℕ
+    poolFirst = poolAfter f (Open (k .cells) (k .handles) (k .tasks)) (k .words) (k .slice)
 
-  abbrev pub poolLast : List ℕ
-  poolLast = poolAll (k .calls) poolFirst
+    abbrev pub poolLast : List ℕ
+    poolLast = poolAll f (k .calls) poolFirst
 
-  -- what the caller has noted: from the numbers returned, the answer slices, and what the pool shows
-  abbrev pub diary : Past
-  diary = notedAll (k .calls) poolFirst (fresh (stateIn poolFirst))
+    -- what the caller has noted: from the numbers returned, the answer slices, and what the pool shows
+    abbrev pub diary : Past
+    diary = notedAll f (k .calls) poolFirst (fresh (stateIn poolFirst))
 
-  -- the cells of a table
-  abbrev pub N : ℕ
-  N = diary .store .sizes .n
+    -- the cells of a table
+    abbrev pub N : ℕ
+    N = diary .store .sizes .n
 
-  -- the machine's opened state, and the machine's calls; a call with a short slice is none
-  abbrev pub machineFirst : State
-  machineFirst = opened (k .cells) (k .handles) (k .tasks) (length (k .words)) (lieOf (sizesOf (k .cells) (k .handles) (k .tasks) (length (k .words))) (k .words))
+    -- the machine's opened state, and the machine's calls; a call with a short slice is none
+    abbrev pub machineFirst : State
+    machineFirst = opened (k .cells) (k .handles) (k .tasks) (length (k .words)) (lieOf (sizesOf (k .cells) (k .handles) (k .tasks) (length (k .words))) (k .words))
 
-  abbrev pub machineCalls : List Call
-  machineCalls = callsIn (k .calls) poolFirst
+    abbrev pub machineCalls : List Call
+    machineCalls = callsIn f (k .calls) poolFirst
 
-  -- ---- demand 2: of every kept store
+    -- ---- demand 2: of every kept store
 
-  -- Each call does to the store what the rule book's machine does: the pool shows the machine's state.
-  abbrev pub MachineState : Type 0
-  MachineState = stateIn poolLast ≡ run machineFirst machineCalls .0
+    -- Each call does to the store what the rule book's machine does: the pool shows the machine's state.
+    abbrev pub MachineState : Type 0
+    MachineState = stateIn poolLast ≡ run machineFirst machineCalls .0
 
-  -- Each call answers what the machine answers: the number, and all 16 words.
-  abbrev pub MachineAnswers : Type 0
-  MachineAnswers = toldAll (k .calls) poolFirst ≡ tellings (run machineFirst machineCalls .1)
+    -- Each call answers what the machine answers: the number, and all 16 words.
+    abbrev pub MachineAnswers : Type 0
+    MachineAnswers = toldAll f (k .calls) poolFirst ≡ tellings (run machineFirst machineCalls .1)
 
-  -- What the caller has noted is the machine's history, to the last figure.
-  abbrev pub MachineHistory : Type 0
-  MachineHistory = diary ≡ past machineFirst machineCalls
+    -- What the caller has noted is the machine's history, to the last figure.
+    abbrev pub MachineHistory : Type 0
+    MachineHistory = diary ≡ past machineFirst machineCalls
 
-  -- The pool passes the check.
-  abbrev pub StaysSound : Type 0
-  StaysSound = (d : Sizes) × Sound d poolLast
+    -- The pool passes the check.
+    abbrev pub StaysSound : Type 0
+    StaysSound = (d : Sizes) × Sound d poolLast
 
-  -- Every value that a get ended with, and every value that a page handed out, is the functional array's value of that version at that cell.
-  abbrev pub Reads : Type 0
-  Reads = Every (IsRead diary) (diary .gets) × Every (IsRead diary) (diary .pages)
+    -- Every value that a get ended with, and every value that a page handed out, is the functional array's value of that version at that cell.
+    abbrev pub Reads : Type 0
+    Reads = Every (IsRead diary) (diary .gets) × Every (IsRead diary) (diary .pages)
 
-  -- Each get and page that has ended has handed out its cells, each once, in rising order, and nothing else.
-  abbrev pub ReadsInOrder : Type 0
-  ReadsInOrder = Every (λ (e : Ended). HasGiven diary (e .work) (e .given)) (diary .ends)
+    -- Each get and page that has ended has handed out its cells, each once, in rising order, and nothing else.
+    abbrev pub ReadsInOrder : Type 0
+    ReadsInOrder = Every (λ (e : Ended). HasGiven diary (e .work) (e .given)) (diary .ends)
 
-  -- Where the pages on one version have handed out each cell once, their values by cell are exactly that version's table, whatever was called between.
-  abbrev pub PagesJoin : Type 0
-  PagesJoin = (h : ℕ) → let l = byCell (onVersion h (diary .pages)) in cellsOf l ≡ upTo N → valuesOf l ≡ tableOf (diary .versions) h
+    -- Where the pages on one version have handed out each cell once, their values by cell are exactly that version's table, whatever was called between.
+    abbrev pub PagesJoin : Type 0
+    PagesJoin = (h : ℕ) → let l = byCell (onVersion h (diary .pages)) in cellsOf l ≡ upTo N → valuesOf l ≡ tableOf (diary .versions) h
 
-  -- So for any choice of hand-outs of one version that covers each cell once.
-  abbrev pub PagesJoinAny : Type 0
-  PagesJoinAny = (h : ℕ) (l : List Value) → Every (λ (r : Value). In r (diary .pages) × (r .handle ≡ h)) l → cellsOf l ≡ upTo N → valuesOf l ≡ tableOf (diary .versions) h
+    -- So for any choice of hand-outs of one version that covers each cell once.
+    abbrev pub PagesJoinAny : Type 0
+    PagesJoinAny = (h : ℕ) (l : List Value) → Every (λ (r : Value). In r (diary .pages) × (r .handle ≡ h)) l → cellsOf l ≡ upTo N → valuesOf l ≡ tableOf (diary .versions) h
 
-  -- What a live handle shows is its version's table, as the functional array's new and set have made it.
-  abbrev pub Tables : Type 0
-  Tables = (h : ℕ) → liveHandle (diary .store) h ≡ true → shown (diary .store) h ≡ tableOf (diary .versions) h
+    -- What a live handle shows is its version's table, as the functional array's new and set have made it.
+    abbrev pub Tables : Type 0
+    Tables = (h : ℕ) → liveHandle (diary .store) h ≡ true → shown (diary .store) h ≡ tableOf (diary .versions) h
 
-  -- No public number was given to two versions.
-  abbrev pub NumbersOnce : Type 0
-  NumbersOnce = Once (diary .versions)
+    -- No public number was given to two versions.
+    abbrev pub NumbersOnce : Type 0
+    NumbersOnce = Once (diary .versions)
 
-  -- ---- demand 3: of every kept store
+    -- ---- demand 3: of every kept store
 
-  -- All steps spent by sets, unfinished ones too, are at most 12 for each set that found its version not yet set and 5N + 3 for each later one.
-  abbrev pub SetsBound : Type 0
-  SetsBound = diary .setSteps ≤ setsBound N (diary .firsts) (diary .laters)
+    -- All steps spent by sets, unfinished ones too, are at most 12 for each set that found its version not yet set and 5N + 3 for each later one.
+    abbrev pub SetsBound : Type 0
+    SetsBound = diary .setSteps ≤ setsBound N (diary .firsts) (diary .laters)
 
-  -- No get took more than 3 steps and the binary digits of N, no page more than so many for each cell; a set at most 5N + 3, a new N + 1.
-  abbrev pub Priced : Type 0
-  Priced = Every (λ (e : Ended). e .told ≤ price N (e .work)) (diary .ends)
+    -- No get took more than 3 steps and the binary digits of N, no page more than so many for each cell; a set at most 5N + 3, a new N + 1.
+    abbrev pub Priced : Type 0
+    Priced = Every (λ (e : Ended). e .told ≤ price N (e .work)) (diary .ends)
 
-  -- A busy task has always taken fewer steps than its price, in any order of the tasks' steps.
-  abbrev pub BusyBelow : Type 0
-  BusyBelow = (t : ℕ) → busy (taskAt (diary .store) t .stage) ≡ true → diary .counts t < price N (diary .works t)
+    -- A busy task has always taken fewer steps than its price, in any order of the tasks' steps.
+    abbrev pub BusyBelow : Type 0
+    BusyBelow = (t : ℕ) → busy (taskAt (diary .store) t .stage) ≡ true → diary .counts t < price N (diary .works t)
 
-  -- The steps that a final answer tells are the accepted step calls of that task since its start, one refused 10 counted.
-  abbrev pub StepsCounted : Type 0
-  StepsCounted = Every (λ (e : Ended). e .told ≡ e .counted) (diary .ends)
+    -- The steps that a final answer tells are the accepted step calls of that task since its start, one refused 10 counted.
+    abbrev pub StepsCounted : Type 0
+    StepsCounted = Every (λ (e : Ended). e .told ≡ e .counted) (diary .ends)
 
-  -- Exactly: new takes N + 1, a set in place 4, a copying set 3 + 4N and its probes; 10 comes at step 1 of a new and at step 2 of a set.
-  abbrev pub StepsExact : Type 0
-  StepsExact = Every (λ (e : Ended). (operation (e .last) ≡ workCode (e .work)) × Spent N (e .last) (e .told) (e .probes)) (diary .ends)
+    -- Exactly: new takes N + 1, a set in place 4, a copying set 3 + 4N and its probes; 10 comes at step 1 of a new and at step 2 of a set.
+    abbrev pub StepsExact : Type 0
+    StepsExact = Every (λ (e : Ended). (operation (e .last) ≡ workCode (e .work)) × Spent N (e .last) (e .told) (e .probes)) (diary .ends)

@@ -5,7 +5,7 @@ use mathlib.Core.Bool.{Bool, _&&_, _||_, false, not, true}
 use mathlib.Core.List.{List, [], _++_, _∷_}
 use lib.Dec.{eqb, ltb}
 use lib.ListN.{getD, length, take}
-use Rattle.bridge.specs.Asked.{Asked, Get, LookCell, LookEntry, LookLog, LookTask, LookVersion, New, Open, Page, Release, Report, Set, Step, callsOf}
+use Rattle.bridge.specs.Asked.{Asked, Get, LookCell, LookEntry, LookLog, LookTask, LookVersion, New, Open, Page, Release, Report, Set, Step, callOf}
 use Rattle.pool.specs.Calls.{lookCellIn, lookEntryIn, lookLogIn, lookTaskIn, lookVersionIn, releaseIn, reportIn, startGetIn, startNewIn, startPageIn, startSetIn, stepIn}
 use Rattle.pool.specs.declared.Header.{Header}
 use Rattle.pool.specs.declared.Header.the-variants as header
@@ -27,11 +27,15 @@ use Rattle.winchclover.specs.Answered.{answeredIn, shownIn}
 abbrev pub Outcome : Type 0
 Outcome = (List ℕ × List ℕ) × ℕ
 
+-- a build of the C functions: what is asked, pool and answer slice as they are lent, and what comes of it
+abbrev pub Build : Type 0
+Build = Asked → List ℕ → List ℕ → Outcome
+
 -- a call that only looks leaves the pool
 abbrev looks : List ℕ → List ℕ × ℕ → Outcome
 looks p z = ((p, z .0), z .1)
 
--- what was asked, pool and answer slice as they were lent
+-- the product's build
 unfoldable pub spoken : Asked → List ℕ → List ℕ → Outcome
 spoken (Open n h t) p a = answeredIn (λ q. openIn q n h t) p a
 spoken (New t v) p a = answeredIn (λ q. startNewIn q t v) p a
@@ -47,14 +51,14 @@ spoken (LookEntry b i j) p a = looks p (shownIn (λ q. lookEntryIn q b i j) p a)
 spoken (LookTask t) p a = looks p (shownIn (λ q. lookTaskIn q t) p a)
 spoken Report p a = looks p (shownIn reportIn p a)
 
-abbrev pub poolAfter : Asked → List ℕ → List ℕ → List ℕ
-poolAfter x p a = spoken x p a .0 .0
+abbrev pub poolAfter : Build → Asked → List ℕ → List ℕ → List ℕ
+poolAfter f x p a = f x p a .0 .0
 
-abbrev pub answerAfter : Asked → List ℕ → List ℕ → List ℕ
-answerAfter x p a = spoken x p a .0 .1
+abbrev pub answerAfter : Build → Asked → List ℕ → List ℕ → List ℕ
+answerAfter f x p a = f x p a .0 .1
 
-abbrev pub numberOf : Asked → List ℕ → List ℕ → ℕ
-numberOf x p a = spoken x p a .1
+abbrev pub numberOf : Build → Asked → List ℕ → List ℕ → ℕ
+numberOf f x p a = f x p a .1
 
 -- the sizes of the store that a call is about: open's are those that it opens, the others' stand in words 0 to 5
 unfoldable pub storeOf : Asked → List ℕ → Header
@@ -189,32 +193,30 @@ pub record Spoken : Type 0 where
   pub slice : List ℕ
 
 -- the pool after them
-unfoldable pub poolAll : List Spoken → List ℕ → List ℕ
-poolAll [] p = p
-poolAll (c ∷ cs) p = poolAll cs (poolAfter (c .call) p (c .slice))
+unfoldable pub poolAll : Build → List Spoken → List ℕ → List ℕ
+poolAll f [] p = p
+poolAll f (c ∷ cs) p = poolAll f cs (poolAfter f (c .call) p (c .slice))
 
 -- what they told, of each whose slice was not short: the number, and the first 16 words of the slice
-unfoldable pub toldAll : List Spoken → List ℕ → List (ℕ × List ℕ)
-toldAll [] p = []
-toldAll (c ∷ cs) p =
-    let z = spoken (c .call) p (c .slice) in
-    let r = toldAll cs (z .0 .0) in
+unfoldable pub toldAll : Build → List Spoken → List ℕ → List (ℕ × List ℕ)
+toldAll f [] p = []
+toldAll f (c ∷ cs) p =
+    let z = f (c .call) p (c .slice) in
+    let r = toldAll f cs (z .0 .0) in
     if short (c .slice) then r else (z .1, take 16 (z .0 .1)) ∷ r
 
 -- what a caller has noted after them, on top of y
-unfoldable pub notedAll : List Spoken → List ℕ → Past → Past
-notedAll [] p y = y
-notedAll (c ∷ cs) p y =
-    let z = spoken (c .call) p (c .slice) in notedAll cs (z .0 .0) (notes (c .call) (stateIn (z .0 .0)) (z .1) (z .0 .1) y)
+unfoldable pub notedAll : Build → List Spoken → List ℕ → Past → Past
+notedAll f [] p y = y
+notedAll f (c ∷ cs) p y =
+    let z = f (c .call) p (c .slice) in notedAll f cs (z .0 .0) (notes (c .call) (stateIn (z .0 .0)) (z .1) (z .0 .1) y)
 
--- those whose slice was not short
-unfoldable pub heeded : List Spoken → List Asked
-heeded [] = []
-heeded (c ∷ cs) = let r = heeded cs in if short (c .slice) then r else c .call ∷ r
-
--- the machine's calls that they amount to
-abbrev pub callsIn : List Spoken → List ℕ → List Call
-callsIn cs p = callsOf (heeded cs) p
+-- the machine's calls that they amount to: a call with a short slice is none
+unfoldable pub callsIn : Build → List Spoken → List ℕ → List Call
+callsIn f [] p = []
+callsIn f (c ∷ cs) p =
+    let r = callsIn f cs (poolAfter f (c .call) p (c .slice)) in
+    if short (c .slice) then r else callOf (c .call) p ∷ r
 
 -- the number and the 16 words of each of the machine's answers
 unfoldable pub tellings : List Reply → List (ℕ × List ℕ)

@@ -14,15 +14,20 @@ use Rattle.rulebook.specs.Answers.{refusal, word}
 use Rattle.rulebook.specs.declared.Reply.{Reply}
 use Rattle.rulebook.specs.declared.Sizes.{Sizes}
 use Rattle.rulebook.specs.History.{Past, Work, accepted, making, next, noted, onward, paging, reading, resting, setting, stepped}
-use Rattle.rulebook.specs.Machine.{call}
+use Rattle.rulebook.specs.Machine.{Call, call}
 use Rattle.rulebook.specs.Sizes.{if_then_else_}
 use Rattle.rulebook.specs.State.{State, listTo}
 use Rattle.rulebook.specs.Tests.{by-test}
 use Rattle.theorems.specs.Proofs.Follows.{next-store}
 use Rattle.promises.specs.Proofs.Calls.{spoken-long, spoken-short, telling}
-use Rattle.promises.specs.Said.{Outcome, Spoken, heeded, notedAll, notedBy, notes, poolAll, short, stateIn, stateUnder, steppedBy, tellings, toldAll}
+use Rattle.promises.specs.Said.{Outcome, Spoken, callsIn, notedAll, notedBy, notes, poolAll, short, spoken, stateIn, stateUnder, steppedBy, tellings, toldAll}
 
 -- ---- the list without the calls that are nothing
+
+-- those whose slice is not short
+pub heeded : List Spoken → List Asked
+heeded [] = []
+heeded (c ∷ cs) = let r = heeded cs in if short (c .slice) then r else c .call ∷ r
 
 module _ (c : Spoken) (cs : List Spoken) where
   heeded-short : short (c .slice) ≡ true → heeded (c ∷ cs) ≡ heeded cs
@@ -34,20 +39,30 @@ module _ (c : Spoken) (cs : List Spoken) where
   heeded-long e = rw e
 
 -- the pool after the calls
-pub pool-all : (cs : List Spoken) (p : List ℕ) → poolAll cs p ≡ askedAll (heeded cs) p .0
+pub pool-all : (cs : List Spoken) (p : List ℕ) → poolAll spoken cs p ≡ askedAll (heeded cs) p .0
 unfolding poolAll askedAll heeded
 pool-all [] p = refl
 pool-all (c ∷ cs) p =
     by-test (short (c .slice))
-    (λ e. ap (λ (z : Outcome). poolAll cs (z .0 .0)) (spoken-short (c .call) p (c .slice) e) ∙ pool-all cs p ∙ ap (λ (l : List Asked). askedAll l p .0) (sym (heeded-short c cs e)))
-    (λ e. ap (λ (z : Outcome). poolAll cs (z .0 .0)) (spoken-long (c .call) p (c .slice) e) ∙ pool-all cs (asked (c .call) p .0) ∙ ap (λ (l : List Asked). askedAll l p .0) (sym (heeded-long c cs e)))
+    (λ e. ap (λ (z : Outcome). poolAll spoken cs (z .0 .0)) (spoken-short (c .call) p (c .slice) e) ∙ pool-all cs p ∙ ap (λ (l : List Asked). askedAll l p .0) (sym (heeded-short c cs e)))
+    (λ e. ap (λ (z : Outcome). poolAll spoken cs (z .0 .0)) (spoken-long (c .call) p (c .slice) e) ∙ pool-all cs (asked (c .call) p .0) ∙ ap (λ (l : List Asked). askedAll l p .0) (sym (heeded-long c cs e)))
+
+-- the machine's calls that they amount to
+pub calls-all : (cs : List Spoken) (p : List ℕ) → callsIn spoken cs p ≡ callsOf (heeded cs) p
+unfolding callsIn callsOf heeded
+calls-all [] p = refl
+calls-all (c ∷ cs) p =
+    let step : Outcome → List Call = λ z. if short (c .slice) then callsIn spoken cs (z .0 .0) else callOf (c .call) p ∷ callsIn spoken cs (z .0 .0) in
+    by-test (short (c .slice))
+    (λ e. ap step (spoken-short (c .call) p (c .slice) e) ∙ rw e (calls-all cs p))
+    (λ e. ap step (spoken-long (c .call) p (c .slice) e) ∙ rw e (ap (λ (l : List Call). callOf (c .call) p ∷ l) (calls-all cs (asked (c .call) p .0))))
 
 -- what they tell
-pub told-all : (cs : List Spoken) (p : List ℕ) → toldAll cs p ≡ tellings (askedAll (heeded cs) p .1)
+pub told-all : (cs : List Spoken) (p : List ℕ) → toldAll spoken cs p ≡ tellings (askedAll (heeded cs) p .1)
 unfolding toldAll askedAll heeded tellings listTo
 told-all [] p = refl
 told-all (c ∷ cs) p =
-    let step : Outcome → List (ℕ × List ℕ) = λ z. if short (c .slice) then toldAll cs (z .0 .0) else (z .1, take 16 (z .0 .1)) ∷ toldAll cs (z .0 .0) in
+    let step : Outcome → List (ℕ × List ℕ) = λ z. if short (c .slice) then toldAll spoken cs (z .0 .0) else (z .1, take 16 (z .0 .1)) ∷ toldAll spoken cs (z .0 .0) in
     by-test (short (c .slice))
     (λ e. ap step (spoken-short (c .call) p (c .slice) e) ∙ rw e (told-all cs p))
     (λ e. ap step (spoken-long (c .call) p (c .slice) e) ∙ rw e (ap (λ (l : List (ℕ × List ℕ)). told (asked (c .call) p .1) ∷ l) (told-all cs (asked (c .call) p .0))))
@@ -110,17 +125,17 @@ unfolding notes
 notes-short x s a y = refl
 
 -- what is noted of all calls
-pub noted-all : (cs : List Spoken) {d : Sizes} {p : List ℕ} → Sound d p → (y : Past) → y .store ≡ viewOf d p → notedAll cs p y ≡ onward y (callsOf (heeded cs) p)
+pub noted-all : (cs : List Spoken) {d : Sizes} {p : List ℕ} → Sound d p → (y : Past) → y .store ≡ viewOf d p → notedAll spoken cs p y ≡ onward y (callsOf (heeded cs) p)
 unfolding notedAll onward callsOf heeded
 noted-all [] S y e = refl
 noted-all (c ∷ cs) {d} {p} S y e =
     let x = c .call in
     let a = c .slice in
-    let step : Outcome → Past = λ z. notedAll cs (z .0 .0) (notes x (stateIn (z .0 .0)) (z .1) (z .0 .1) y) in
+    let step : Outcome → Past = λ z. notedAll spoken cs (z .0 .0) (notes x (stateIn (z .0 .0)) (z .1) (z .0 .1) y) in
     by-test (short a)
-    (λ s. ap step (spoken-short x p a s) ∙ ap (notedAll cs p) (notes-short x (stateIn p) a y) ∙ noted-all cs S y e ∙ ap (λ (l : List Asked). onward y (callsOf l p)) (sym (heeded-short c cs s)))
+    (λ s. ap step (spoken-short x p a s) ∙ ap (notedAll spoken cs p) (notes-short x (stateIn p) a y) ∙ noted-all cs S y e ∙ ap (λ (l : List Asked). onward y (callsOf l p)) (sym (heeded-short c cs s)))
     (λ s.
     ap step (spoken-long x p a s)
-    ∙ ap (notedAll cs (asked x p .0)) (next-notes x S a y e)
+    ∙ ap (notedAll spoken cs (asked x p .0)) (next-notes x S a y e)
     ∙ noted-all cs (bridge x S .sound) (next (callOf x p) y) (next-shows x S a y e)
     ∙ ap (λ (l : List Asked). onward y (callsOf l p)) (sym (heeded-long c cs s)))

@@ -41,11 +41,11 @@ use Rattle.theorems.specs.Proofs.Ten as ten
 use Rattle.theorems.specs.Terms.{Every, Harmless, causes, due, more, none}
 use Rattle.promises.specs.Promises.{OpenDue, RefusalDue, TenHarmless, Undescribed}
 use Rattle.promises.specs.Proofs.Calls.{spoken-case, spoken-long}
-use Rattle.promises.specs.Said.{Outcome, isOpen, numberOf, poolAfter}
+use Rattle.promises.specs.Said.{Outcome, isOpen, numberOf, poolAfter, spoken}
 
 -- ---- before the store is looked at
 
-pub open-due : OpenDue
+pub open-due : OpenDue spoken
 unfolding asked
 open-due n h t p a l =
     subst⁻¹ (λ (z : Outcome). z .1 ≡ (if opens n h t (length p) then 0 else 3)) (spoken-long (Open n h t) p a (le-ltb (length a) 16 l))
@@ -76,12 +76,12 @@ asked-bad (LookEntry b i j) p o e = seen-bad (headerOf p) p _ e
 asked-bad (LookTask t) p o e = seen-bad (headerOf p) p _ e
 asked-bad Report p o e = seen-bad (headerOf p) p _ e
 
-pub undescribed : Undescribed
+pub undescribed : Undescribed spoken
 undescribed x p a o l e = subst⁻¹ (λ (z : Outcome). z .1 ≡ 1) (spoken-long x p a (le-ltb (length a) 16 l)) (asked-bad x p o e)
 
 -- ---- on a pool that passes the check
 
-pub refusal-due : RefusalDue
+pub refusal-due : RefusalDue spoken
 refusal-due x p a d S l =
     subst⁻¹ (λ (z : Outcome). z .1 ≡ due (causes (callOf x p) (viewOf d p))) (spoken-long x p a (le-ltb (length a) 16 l))
     (ap refusal (bridge x S .reply) ∙ fits-call (viewOf d p) (callOf x p) .is-due)
@@ -92,7 +92,7 @@ unfolding call
 live-slots s sh r t j l =
     ap (λ (x : State). slotAt x j) (erase-call (machine.Step t) s) ∙ inv-step (erase s) (erase-shape s sh) (rules-inv s r) t .1 j l .0
 
-step-harmless : (t : ℕ) (p a : List ℕ) (d : Sizes) → Sound d p → numberOf (Step t) p a ≡ 10 → Harmless (viewOf d p) t (viewOf d (poolAfter (Step t) p a))
+step-harmless : (t : ℕ) (p a : List ℕ) (d : Sizes) → Sound d p → numberOf spoken (Step t) p a ≡ 10 → Harmless (viewOf d p) t (viewOf d (poolAfter spoken (Step t) p a))
 unfolding callOf sizesAfter call
 step-harmless t p a d S =
     let b = bridge (Step t) S in
@@ -111,13 +111,13 @@ due-not [] none e = let z : _≡_ {A = ℕ} 0 10 = e in omega arith
 due-not (c ∷ cs) (more h m) e = by-test (c .0) (λ b. eqb-false (c .1) 10 h (rw b at e)) (λ b. due-not cs m (rw b at e))
 
 -- so the call is never refused 10
-never-ten : {Q : Type 0} (x : Asked) (p a : List ℕ) (d : Sizes) → Sound d p → NoTen (causes (callOf x p) (viewOf d p)) → numberOf x p a ≡ 10 → Q
+never-ten : {Q : Type 0} (x : Asked) (p a : List ℕ) (d : Sizes) → Sound d p → NoTen (causes (callOf x p) (viewOf d p)) → numberOf spoken x p a ≡ 10 → Q
 never-ten {Q} x p a d S rows =
     spoken-case x p a (λ (z : Outcome). z .1 ≡ 10 → Q)
     (λ _ e. absurd (let q : _≡_ {A = ℕ} 15 10 = e in omega arith))
     (λ _ e. absurd (due-not (causes (callOf x p) (viewOf d p)) rows (sym (ap refusal (bridge x S .reply) ∙ fits-call (viewOf d p) (callOf x p) .is-due) ∙ e)))
 
-pub ten-harmless : TenHarmless
+pub ten-harmless : TenHarmless spoken
 unfolding callOf
 ten-harmless (Open n h t) p a d S = never-ten (Open n h t) p a d S (more refl none)
 ten-harmless (New t v) p a d S = never-ten (New t v) p a d S (more refl (more refl (more refl none)))

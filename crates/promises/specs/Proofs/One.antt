@@ -36,7 +36,7 @@ use Rattle.store.specs.Reach.{get-reaches, new-reaches, page-reaches, release-r
 use Rattle.promises.specs.Promises.{AnswerLength, AnswerRest, PoolLength, PoolRest, RefusalKeeps, RefusalZeros, ShortSlice}
 use Rattle.promises.specs.Proofs.Calls.{spoken-case, spoken-long, spoken-short, telling}
 use Rattle.promises.specs.Proofs.Refusals.{Fair, get-fair, new-fair, page-fair, release-fair, set-fair, step-fair}
-use Rattle.promises.specs.Said.{Outcome, storeOf}
+use Rattle.promises.specs.Said.{Outcome, storeOf, spoken}
 
 -- ---- what a call does to the pool's words
 
@@ -173,29 +173,29 @@ module _ (r : Reply) (a : List ℕ) where
 
 -- ---- demand 1
 
-pub pool-length : PoolLength
+pub pool-length : PoolLength spoken
 pool-length x p a = spoken-case x p a (λ (z : Outcome). length (z .0 .0) ≡ length p) (λ _. refl) (λ _. careful x p .inside .long)
 
-pub pool-rest : PoolRest
+pub pool-rest : PoolRest spoken
 pool-rest x p a d g i l =
     spoken-case x p a (λ (z : Outcome). getD (z .0 .0) i 0 ≡ getD p i 0) (λ _. refl) (λ _. careful x p .inside .rest d g i l)
 
-pub answer-length : AnswerLength
+pub answer-length : AnswerLength spoken
 answer-length x p a =
     spoken-case x p a (λ (z : Outcome). length (z .0 .1) ≡ length a) (λ _. refl) (λ e. telling-length (asked x p .1) a (ltb-false (length a) 16 e))
 
-pub answer-rest : AnswerRest
+pub answer-rest : AnswerRest spoken
 answer-rest x p a j l =
     spoken-case x p a (λ (z : Outcome). getD (z .0 .1) j 0 ≡ getD a j 0) (λ _. refl) (λ _. telling-rest (asked x p .1) a j l)
 
-pub short-slice : ShortSlice
+pub short-slice : ShortSlice spoken
 short-slice x p a l = spoken-short x p a (lt-ltb (length a) 16 l)
 
-pub refusal-keeps : RefusalKeeps
+pub refusal-keeps : RefusalKeeps spoken
 refusal-keeps x p a =
     spoken-case x p a (λ (z : Outcome). (z .1 ≡ 0 → ⊥) → (z .1 ≡ 10 → ⊥) → z .0 .0 ≡ p) (λ _ _ _. refl) (λ _ u v. careful x p .keeps (u, v))
 
-pub refusal-zeros : RefusalZeros
+pub refusal-zeros : RefusalZeros spoken
 refusal-zeros x p a l =
     subst⁻¹ (λ (z : Outcome). (z .1 ≡ 0 → ⊥) → (z .1 ≡ 10 → ⊥) → (j : ℕ) → j < 16 → getD (z .0 .1) j 0 ≡ 0) (spoken-long x p a (le-ltb (length a) 16 l))
     (λ u v j m. telling-word (asked x p .1) a j m ∙ refuses-zeros (asked x p .1) (u, v) j)

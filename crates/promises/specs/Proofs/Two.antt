@@ -3,7 +3,7 @@
 use Prim.Native.Nat.{ℕ}
 use mathlib.Core.Bool.{true}
 use mathlib.Core.List.{List}
-use mathlib.Core.Path.{_∙_, _≡_, ap, refl, subst, subst⁻¹, sym}
+use mathlib.Core.Path.{_∙_, _≡_, ap, ap₂, refl, subst, subst⁻¹, sym}
 use native.Mathlib.Omega.{arith}
 use lib.ListN.{length}
 use Rattle.bridge.specs.Asked.{Asked, Bridged, Open, asked, askedAll, callsOf, sizesAfterAll}
@@ -17,6 +17,7 @@ use Rattle.rulebook.specs.Answers.{refusal}
 use Rattle.rulebook.specs.declared.Reply.{Reply}
 use Rattle.rulebook.specs.declared.Sizes.{Sizes}
 use Rattle.rulebook.specs.History.{Ended, IsOpened, Past, Value, fresh, past, run, tableOf}
+use Rattle.rulebook.specs.Machine.{Call}
 use Rattle.rulebook.specs.Sizes.{opens}
 use Rattle.rulebook.specs.State.{State, liveHandle}
 use Rattle.rulebook.specs.Tests.{by-test}
@@ -24,8 +25,8 @@ use Rattle.theorems.specs.Demands as theorems
 use Rattle.theorems.specs.Terms.{Every, HasGiven, In, IsRead, Once, byCell, cellsOf, onVersion, shown, upTo, valuesOf}
 use Rattle.promises.specs.Promises.{Kept, MachineAnswers, MachineHistory, MachineState, NumbersOnce, PagesJoin, PagesJoinAny, Reads, ReadsInOrder, StaysSound, Tables, diary, machineCalls, machineFirst, poolFirst}
 use Rattle.promises.specs.Proofs.Calls.{spoken-case}
-use Rattle.promises.specs.Proofs.Histories.{noted-all, pool-all, sound-state, told-all}
-use Rattle.promises.specs.Said.{Outcome, heeded, stateIn, tellings}
+use Rattle.promises.specs.Proofs.Histories.{calls-all, heeded, noted-all, pool-all, sound-state, told-all}
+use Rattle.promises.specs.Said.{Outcome, spoken, stateIn, tellings}
 
 -- ---- an open that returned 0
 
@@ -36,7 +37,7 @@ accepts p n h t e =
     (λ o. o)
     (λ o. absurd (let z : _≡_ {A = ℕ} 3 0 = sym (ap (λ (r : List ℕ × Reply). refusal (r .1)) (open-not p n h t o)) ∙ e in omega arith))
 
-module _ (k : Kept) where
+module _ (k : Kept spoken) where
   abbrev n : ℕ
   n = k .cells
 
@@ -52,7 +53,7 @@ module _ (k : Kept) where
   abbrev d : Sizes
   d = sizesOf n h t (length w)
 
-  is-open : (opens n h t (length w) ≡ true) × (poolFirst k ≡ openIn w n h t .0)
+  is-open : (opens n h t (length w) ≡ true) × (poolFirst spoken k ≡ openIn w n h t .0)
   unfolding asked
   is-open =
       spoken-case (Open n h t) w (k .slice) (λ (z : Outcome). z .1 ≡ 0 → (opens n h t (length w) ≡ true) × (z .0 .0 ≡ openIn w n h t .0))
@@ -60,13 +61,13 @@ module _ (k : Kept) where
       (λ _ e. (accepts w n h t e, refl))
       (k .accepted)
 
-  first-sound : Sound d (poolFirst k)
+  first-sound : Sound d (poolFirst spoken k)
   first-sound = subst⁻¹ (Sound d) (is-open .1) (open-sound w n h t (is-open .0))
 
-  first-view : viewOf d (poolFirst k) ≡ machineFirst k
+  first-view : viewOf d (poolFirst spoken k) ≡ machineFirst spoken k
   first-view = ap (viewOf d) (is-open .1) ∙ open-view w n h t (is-open .0)
 
-  pub first-opened : IsOpened (machineFirst k)
+  pub first-opened : IsOpened (machineFirst spoken k)
   first-opened = record { n = n; h = h; t = t; words = length w; lie = lieOf d w; allowed = is-open .0; state = refl }
 
   -- ---- the calls
@@ -74,54 +75,59 @@ module _ (k : Kept) where
   abbrev asks : List Asked
   asks = heeded (k .calls)
 
-  all : Bridged (sizesAfterAll asks (poolFirst k) d) (askedAll asks (poolFirst k)) (run (machineFirst k) (machineCalls k))
+  calls-are : machineCalls spoken k ≡ callsOf asks (poolFirst spoken k)
+  calls-are = calls-all (k .calls) (poolFirst spoken k)
+
+  all : Bridged (sizesAfterAll asks (poolFirst spoken k) d) (askedAll asks (poolFirst spoken k)) (run (machineFirst spoken k) (machineCalls spoken k))
   all =
-      subst (λ (s : State). Bridged (sizesAfterAll asks (poolFirst k) d) (askedAll asks (poolFirst k)) (run s (callsOf asks (poolFirst k)))) first-view
-      (bridge-all asks first-sound)
+      subst⁻¹ (λ (cs : List Call). Bridged (sizesAfterAll asks (poolFirst spoken k) d) (askedAll asks (poolFirst spoken k)) (run (machineFirst spoken k) cs)) calls-are
+      (subst (λ (s : State). Bridged (sizesAfterAll asks (poolFirst spoken k) d) (askedAll asks (poolFirst spoken k)) (run s (callsOf asks (poolFirst spoken k)))) first-view
+      (bridge-all asks first-sound))
 
-  pub stays-sound : StaysSound k
-  stays-sound = (sizesAfterAll asks (poolFirst k) d, subst⁻¹ (Sound (sizesAfterAll asks (poolFirst k) d)) (pool-all (k .calls) (poolFirst k)) (all .sound))
+  pub stays-sound : StaysSound spoken k
+  stays-sound = (sizesAfterAll asks (poolFirst spoken k) d, subst⁻¹ (Sound (sizesAfterAll asks (poolFirst spoken k) d)) (pool-all (k .calls) (poolFirst spoken k)) (all .sound))
 
-  pub machine-state : MachineState k
-  machine-state = ap stateIn (pool-all (k .calls) (poolFirst k)) ∙ sound-state _ _ (all .sound) ∙ all .state
+  pub machine-state : MachineState spoken k
+  machine-state = ap stateIn (pool-all (k .calls) (poolFirst spoken k)) ∙ sound-state _ _ (all .sound) ∙ all .state
 
-  pub machine-answers : MachineAnswers k
-  machine-answers = told-all (k .calls) (poolFirst k) ∙ ap tellings (all .reply)
+  pub machine-answers : MachineAnswers spoken k
+  machine-answers = told-all (k .calls) (poolFirst spoken k) ∙ ap tellings (all .reply)
 
-  pub machine-history : MachineHistory k
+  pub machine-history : MachineHistory spoken k
   machine-history =
-      let seen = sound-state d (poolFirst k) first-sound in
-      noted-all (k .calls) first-sound (fresh (stateIn (poolFirst k))) seen ∙ ap (λ (s : State). past s (machineCalls k)) (seen ∙ first-view)
+      let seen = sound-state d (poolFirst spoken k) first-sound in
+      noted-all (k .calls) first-sound (fresh (stateIn (poolFirst spoken k))) seen
+      ∙ ap₂ (λ (s : State) (cs : List Call). past s cs) (seen ∙ first-view) (sym calls-are)
 
   -- what holds of the machine's history holds of what the caller has noted
-  pub as-noted : (P : Past → Type 0) → P (past (machineFirst k) (machineCalls k)) → P (diary k)
+  pub as-noted : (P : Past → Type 0) → P (past (machineFirst spoken k) (machineCalls spoken k)) → P (diary spoken k)
   as-noted P h = subst⁻¹ P machine-history h
 
   -- ---- reads
 
-  pub reads : Reads k
-  reads = as-noted (λ (y : Past). Every (IsRead y) (y .gets) × Every (IsRead y) (y .pages)) (theorems.reads (machineFirst k) first-opened (machineCalls k))
+  pub reads : Reads spoken k
+  reads = as-noted (λ (y : Past). Every (IsRead y) (y .gets) × Every (IsRead y) (y .pages)) (theorems.reads (machineFirst spoken k) first-opened (machineCalls spoken k))
 
-  pub reads-in-order : ReadsInOrder k
+  pub reads-in-order : ReadsInOrder spoken k
   reads-in-order =
-      as-noted (λ (y : Past). Every (λ (e : Ended). HasGiven y (e .work) (e .given)) (y .ends)) (theorems.order (machineFirst k) first-opened (machineCalls k))
+      as-noted (λ (y : Past). Every (λ (e : Ended). HasGiven y (e .work) (e .given)) (y .ends)) (theorems.order (machineFirst spoken k) first-opened (machineCalls spoken k))
 
-  pub pages-join : PagesJoin k
+  pub pages-join : PagesJoin spoken k
   pages-join =
       as-noted
       (λ (y : Past). (v : ℕ) → let l = byCell (onVersion v (y .pages)) in cellsOf l ≡ upTo (y .store .sizes .n) → valuesOf l ≡ tableOf (y .versions) v)
-      (theorems.join (machineFirst k) first-opened (machineCalls k))
+      (theorems.join (machineFirst spoken k) first-opened (machineCalls spoken k))
 
-  pub pages-join-any : PagesJoinAny k
+  pub pages-join-any : PagesJoinAny spoken k
   pages-join-any =
       as-noted
       (λ (y : Past). (v : ℕ) (l : List Value) → Every (λ (r : Value). In r (y .pages) × (r .handle ≡ v)) l → cellsOf l ≡ upTo (y .store .sizes .n) → valuesOf l ≡ tableOf (y .versions) v)
-      (theorems.join-any (machineFirst k) first-opened (machineCalls k))
+      (theorems.join-any (machineFirst spoken k) first-opened (machineCalls spoken k))
 
-  pub tables : Tables k
+  pub tables : Tables spoken k
   tables =
       as-noted (λ (y : Past). (v : ℕ) → liveHandle (y .store) v ≡ true → shown (y .store) v ≡ tableOf (y .versions) v)
-      (theorems.tables (machineFirst k) first-opened (machineCalls k))
+      (theorems.tables (machineFirst spoken k) first-opened (machineCalls spoken k))
 
-  pub numbers-once : NumbersOnce k
-  numbers-once = as-noted (λ (y : Past). Once (y .versions)) (theorems.numbers (machineFirst k) first-opened (machineCalls k))
+  pub numbers-once : NumbersOnce spoken k
+  numbers-once = as-noted (λ (y : Past). Once (y .versions)) (theorems.numbers (machineFirst spoken k) first-opened (machineCalls spoken k))
