@@ -167,3 +167,32 @@ module _ (f : Build) where
     -- Exactly: new takes N + 1, a set in place 4, a copying set 3 + 4N and its probes; 10 comes at step 1 of a new and at step 2 of a set.
     abbrev pub StepsExact : Type 0
     StepsExact = Every (λ (e : Ended). (operation (e .last) ≡ workCode (e .work)) × Spent N (e .last) (e .told) (e .probes)) (diary .ends)
+
+-- All of it, of one build. Proofs.All shows it of the product's, `spoken`.
+pub record Promised (f : Build) : Type 0 where
+  pub pool-length : PoolLength f
+  pub pool-rest : PoolRest f
+  pub answer-length : AnswerLength f
+  pub answer-rest : AnswerRest f
+  pub short-slice : ShortSlice f
+  pub refusal-keeps : RefusalKeeps f
+  pub refusal-zeros : RefusalZeros f
+  pub open-due : OpenDue f
+  pub undescribed : Undescribed f
+  pub refusal-due : RefusalDue f
+  pub ten-harmless : TenHarmless f
+  pub machine-state : (k : Kept f) → MachineState f k
+  pub machine-answers : (k : Kept f) → MachineAnswers f k
+  pub machine-history : (k : Kept f) → MachineHistory f k
+  pub stays-sound : (k : Kept f) → StaysSound f k
+  pub reads : (k : Kept f) → Reads f k
+  pub reads-in-order : (k : Kept f) → ReadsInOrder f k
+  pub pages-join : (k : Kept f) → PagesJoin f k
+  pub pages-join-any : (k : Kept f) → PagesJoinAny f k
+  pub tables : (k : Kept f) → Tables f k
+  pub numbers-once : (k : Kept f) → NumbersOnce f k
+  pub sets-bound : (k : Kept f) → SetsBound f k
+  pub priced : (k : Kept f) → Priced f k
+  pub busy-below : (k : Kept f) → BusyBelow f k
+  pub steps-counted : (k : Kept f) → StepsCounted f k
+  pub steps-exact : (k : Kept f) → StepsExact f k

@@ -7,3 +7,5 @@ pub mod Numbers
 pub mod Histories
 pub mod Two
 pub mod Three
+pub mod All
+pub mod Useless

@@ -1,0 +1,183 @@
+-- Builds that do nothing useful, as document 01 lists them: each breaks a promise, whatever else it does.
+-- Rests on Promises and on the machine's answers to a few calls, which are computed.
+use Prim.Native.Nat.{_≤_, ℕ}
+use mathlib.Core.Bool.{false, true}
+use mathlib.Core.List.{List, [], _++_, _∷_}
+use mathlib.Core.Logic.{_⊎_, ⊎-elim}
+use mathlib.Core.Path.{_∙_, _≡_, ap, refl, sym}
+use native.Mathlib.Omega.{arith}
+use lib.ListN.{getD, length, length-replicate, replicate, take}
+use Rattle.bridge.specs.Asked.{Asked, Get, LookTask, New, Open, Set, Step, callOf}
+use Rattle.block.specs.Layout.{cellIx}
+use Rattle.pool.specs.Header.{sizesOf}
+use Rattle.pool.specs.Parts.{part}
+use Rattle.pool.specs.Places.{blockPart}
+use Rattle.pool.specs.Pool.{lieOf}
+use Rattle.rulebook.specs.Answers.{stageCode}
+use Rattle.rulebook.specs.History.{Ended, run}
+use Rattle.rulebook.specs.Machine.{Call, call, lookTask}
+use Rattle.rulebook.specs.Sizes.{blockWords, controlWords, lastSerial, opens, room}
+use Rattle.rulebook.specs.Starts.{Lie, begun, opened, reserve, startGet, startNew, startSet, startable}
+use Rattle.rulebook.specs.State.{State, any, blockAt, cellAt, count, filling, freeBlock, freeSlot, held, inUse, listTo, liveHandle, lowest, stood, taskAt, withBlock, withCell, withLog, withSlot, withTask, withVersion}
+use Rattle.rulebook.specs.Steps.{aimed, counted, exchanged, filled, finished, getStep, gotCopy, gotGet, gotPage, moved, noRoom, probed, step, stepAt, taken}
+use Rattle.theorems.specs.Terms.{Every, In, here, more, there}
+use Rattle.promises.specs.Promises.{Kept, Promised, diary, poolFirst, poolLast}
+use Rattle.promises.specs.Said.{Build, Spoken, answerAfter, callsIn, isOpen, numberOf, poolAfter, poolAll, stateIn, tellings, toldAll, wordOf}
+use Rattle.rulebook.specs.Machine as machine
+
+-- ---- a few calls
+
+-- with an answer slice of 16 words
+abbrev slice : List ℕ
+slice = replicate 16 0
+
+abbrev said : Asked → Spoken
+said x = record { call = x; slice = slice }
+
+-- new 7, and n steps of its task
+abbrev making : ℕ → List Spoken
+making n = said (New 0 7) ∷ replicate n (said (Step 0))
+
+-- new 7; it is set to 9; a get of the older version, with a look after its first step
+abbrev watching : List Spoken
+watching = making 2 ++ (said (Set 0 256 0 9) ∷ replicate 4 (said (Step 0))) ++ (said (Get 0 256 0) ∷ said (Step 0) ∷ said (LookTask 0) ∷ replicate 3 (said (Step 0)))
+
+-- the machine's
+abbrev makes : ℕ → List Call
+makes n = machine.New 0 7 ∷ replicate n (machine.Step 0)
+
+abbrev watches : List Call
+watches =
+    makes 2 ++ (machine.Set 0 256 0 9 ∷ replicate 4 (machine.Step 0)) ++ (machine.Get 0 256 0 ∷ machine.Step 0 ∷ machine.LookTask 0 ∷ replicate 3 (machine.Step 0))
+
+-- word j of what call i told
+abbrev toldWord : List (ℕ × List ℕ) → ℕ → ℕ → ℕ
+toldWord l i j = wordOf (getD l i (0, []) .1) j
+
+abbrev stageIn : State → ℕ
+stageIn s = stageCode (taskAt s 0 .stage)
+
+-- what the machine does, whatever lies in the blocks
+pub record Does (lie : Lie) : Type 0 where
+  -- a new that may start is accepted
+  pub accepts-new : getD (tellings (run (opened 1 1 1 88 lie) (makes 0) .1)) 0 (0, []) .0 ≡ 0
+  -- the first step of a new tells nothing, its last that it ends
+  pub tells-nothing : toldWord (tellings (run (opened 1 1 1 88 lie) (makes 2) .1)) 1 0 ≡ 0
+  pub tells-end : toldWord (tellings (run (opened 1 1 1 88 lie) (makes 2) .1)) 2 0 ≡ 2
+  -- the first step goes from stage 1, take a block, to stage 2, fill
+  pub stage-takes : stageIn (run (opened 1 1 1 88 lie) (makes 0) .0) ≡ 1
+  pub stage-fills : stageIn (run (opened 1 1 1 88 lie) (makes 1) .0) ≡ 2
+  -- of two cells, the first filling step leaves the second as it lay
+  pub second-cell : cellAt (blockAt (run (opened 2 1 1 108 lie) (makes 2) .0) 0) 1 ≡ lie .cell 0 1
+  -- after its first step the get has guess 9 and no candidate; it ends with 7
+  pub guess : toldWord (tellings (run (opened 1 2 1 92 lie) watches .1)) 10 5 ≡ 9
+  pub candidate : toldWord (tellings (run (opened 1 2 1 92 lie) watches .1)) 10 6 ≡ 0
+  pub ends-with : toldWord (tellings (run (opened 1 2 1 92 lie) watches .1)) 13 4 ≡ 7
+
+does : (lie : Lie) → Does lie
+unfolding run call opened opens room controlWords blockWords lastSerial withBlock withSlot withTask withVersion withCell withLog any lowest count listTo stood filling held freeBlock freeSlot liveHandle inUse startable reserve begun startNew startGet startSet moved aimed counted probed getStep finished noRoom taken filled gotGet gotPage gotCopy exchanged stepAt step lookTask tellings
+does lie =
+    record { accepts-new = refl; tells-nothing = refl; tells-end = refl; stage-takes = refl; stage-fills = refl; second-cell = refl; guess = refl; candidate = refl; ends-with = refl }
+
+-- a store of n cells, h handles and one task that was opened in a pool of so many zeros, and the calls
+abbrev kept : (f : Build) → Promised f → (n h words : ℕ) → opens n h 1 words ≡ true → List Spoken → Kept f
+kept f P n h words o cs =
+    record { words = replicate words 0; cells = n; handles = h; tasks = 1; slice = slice; accepted = P .open-due n h 1 (replicate words 0) slice (omega arith) ∙ rw (length-replicate {A = ℕ} words 0, o); calls = cs }
+
+-- what lies in its blocks
+abbrev lies : ℕ → ℕ → ℕ → Lie
+lies n h words = lieOf (sizesOf n h 1 (length (replicate {A = ℕ} words 0))) (replicate words 0)
+
+-- ---- refusing always: every open returns a number other than 0, or every other call does
+
+abbrev pub RefusingOpens : Build → Type 0
+RefusingOpens f = (n h t : ℕ) (p a : List ℕ) → numberOf f (Open n h t) p a ≡ 0 → ⊥
+
+pub not-refusing-opens : (f : Build) → RefusingOpens f → Promised f → ⊥
+unfolding opens room controlWords blockWords
+not-refusing-opens f r P = r 1 1 1 (replicate 88 0) slice (P .open-due 1 1 1 (replicate 88 0) slice (omega arith))
+
+abbrev pub Refusing : Build → Type 0
+Refusing f = (x : Asked) (p a : List ℕ) → isOpen x ≡ false → numberOf f x p a ≡ 0 → ⊥
+
+pub not-refusing : (f : Build) → Refusing f → Promised f → ⊥
+unfolding opens room controlWords blockWords toldAll callsIn callOf
+not-refusing f r P =
+    r (New 0 7) _ slice refl (ap (λ (l : List (ℕ × List ℕ)). getD l 0 (0, []) .0) (P .machine-answers (kept f P 1 1 88 refl (making 0))) ∙ does (lies 1 1 88) .accepts-new)
+
+-- ---- one constant reply to every step
+
+abbrev pub Constant : Build → Type 0
+Constant f = (r : ℕ × List ℕ) × ((t : ℕ) (p a : List ℕ) → 16 ≤ length a → (numberOf f (Step t) p a, take 16 (answerAfter f (Step t) p a)) ≡ r)
+
+pub not-constant : (f : Build) → Constant f → Promised f → ⊥
+unfolding opens room controlWords blockWords toldAll callsIn callOf
+not-constant f c P =
+    let k = kept f P 1 1 88 refl (making 2) in
+    let told = P .machine-answers k in
+    let same : toldWord (toldAll f (making 2) (poolFirst f k)) 1 0 ≡ toldWord (toldAll f (making 2) (poolFirst f k)) 2 0 = ap (λ (z : ℕ × List ℕ). wordOf (z .1) 0) (c .1 0 _ slice (omega arith) ∙ sym (c .1 0 _ slice (omega arith))) in
+    let z : _≡_ {A = ℕ} 0 2 =
+    sym (ap (λ (l : List (ℕ × List ℕ)). toldWord l 1 0) told ∙ does (lies 1 1 88) .tells-nothing)
+    ∙ same
+    ∙ ap (λ (l : List (ℕ × List ℕ)). toldWord l 2 0) told ∙ does (lies 1 1 88) .tells-end in
+    omega arith
+
+-- ---- a step that does nothing: it leaves the pool as it was
+
+abbrev pub Idle : Build → Type 0
+Idle f = (t : ℕ) (p a : List ℕ) → poolAfter f (Step t) p a ≡ p
+
+pub not-idle : (f : Build) → Idle f → Promised f → ⊥
+unfolding opens room controlWords blockWords poolAll callsIn callOf
+not-idle f c P =
+    let z : _≡_ {A = ℕ} 2 1 =
+    sym (ap stageIn (P .machine-state (kept f P 1 1 88 refl (making 1))) ∙ does (lies 1 1 88) .stage-fills)
+    ∙ ap (λ (p : List ℕ). stageIn (stateIn p)) (c 0 _ slice)
+    ∙ ap stageIn (P .machine-state (kept f P 1 1 88 refl (making 0))) ∙ does (lies 1 1 88) .stage-takes in
+    omega arith
+
+-- ---- the whole read in the first step: a look after it shows, as guess or as candidate, the value that the get ends with
+
+abbrev pub AtOnce : Build → Type 0
+AtOnce f = (k : Kept f) → k .calls ≡ watching → 2 ≤ k .handles → let l = toldAll f watching (poolFirst f k) in (toldWord l 10 5 ≡ toldWord l 13 4) ⊎ (toldWord l 10 6 ≡ toldWord l 13 4)
+
+pub not-at-once : (f : Build) → AtOnce f → Promised f → ⊥
+unfolding opens room controlWords blockWords callsIn callOf
+not-at-once f c P =
+    let k = kept f P 1 2 92 refl watching in
+    let l = toldAll f watching (poolFirst f k) in
+    let is : (i j : ℕ) → toldWord l i j ≡ _ = λ i j. ap (λ (m : List (ℕ × List ℕ)). toldWord m i j) (P .machine-answers k) in
+    let w = does (lies 1 2 92) in
+    ⊎-elim
+    (λ (e : toldWord l 10 5 ≡ toldWord l 13 4). let z : _≡_ {A = ℕ} 9 7 = sym (is 10 5 ∙ w .guess) ∙ e ∙ is 13 4 ∙ w .ends-with in omega arith)
+    (λ (e : toldWord l 10 6 ≡ toldWord l 13 4). let z : _≡_ {A = ℕ} 0 7 = sym (is 10 6 ∙ w .candidate) ∙ e ∙ is 13 4 ∙ w .ends-with in omega arith)
+    (c k refl (omega arith))
+
+-- ---- a block filled in one step: after the first filling step of new 7 the next cell is 7 too
+
+abbrev pub Filled : Build → Type 0
+Filled f = (k : Kept f) → k .calls ≡ making 2 → 2 ≤ k .cells → cellAt (blockAt (stateIn (poolLast f k)) 0) 1 ≡ 7
+
+-- in a pool of zeros the next cell is 0 before it is filled
+lay : lies 2 1 108 .cell 0 1 ≡ 0
+unfolding lieOf blockPart part cellIx controlWords blockWords room
+lay = refl
+
+pub not-filled : (f : Build) → Filled f → Promised f → ⊥
+unfolding opens room controlWords blockWords callsIn callOf
+not-filled f c P =
+    let k = kept f P 2 1 108 refl (making 2) in
+    let z : _≡_ {A = ℕ} 7 0 = sym (c k refl (omega arith)) ∙ ap (λ (s : State). cellAt (blockAt s 0) 1) (P .machine-state k) ∙ does (lies 2 1 108) .second-cell ∙ lay in
+    omega arith
+
+-- ---- a made-up count: a final answer tells other than the accepted steps of its task
+
+abbrev pub MadeUp : Build → Type 0
+MadeUp f = (k : Kept f) × (e : Ended) × In e (diary f k .ends) × (e .told ≡ e .counted → ⊥)
+
+every-in : {A : Type 0} {Q : A → Type 0} {x : A} {l : List A} → Every Q l → In x l → Q x
+every-in (more q e) here = q
+every-in (more q e) (there i) = every-in e i
+
+pub not-made-up : (f : Build) → MadeUp f → Promised f → ⊥
+not-made-up f m P = m .3 (every-in (P .steps-counted (m .0)) (m .2))
