@@ -2,9 +2,9 @@
 -- Rests on Said for what a call is and what a caller notes of it, and on theorems' Terms for what is right for a value, a page and a price.
 use Prim.Native.Nat.{_*_, _+_, _<_, _≤_, ℕ}
 use mathlib.Core.Bool.{false, true}
-use mathlib.Core.List.{List}
+use mathlib.Core.List.{List, _∷_}
 use mathlib.Core.Path.{_≡_}
-use lib.ListN.{getD, length}
+use lib.ListN.{getD, length, replicate, take}
 use Rattle.bridge.specs.Asked.{Asked, Open, Step, callOf}
 use Rattle.bridge.specs.Sound.{Sound}
 use Rattle.pool.specs.declared.Header.the-variants as header
@@ -15,7 +15,7 @@ use Rattle.rulebook.specs.Answers.{operation}
 use Rattle.rulebook.specs.declared.Sizes.{Sizes}
 use Rattle.rulebook.specs.History.{Ended, Past, Value, fresh, past, run, setsBound, tableOf, workCode}
 use Rattle.rulebook.specs.Machine.{Call}
-use Rattle.rulebook.specs.Sizes.{blockWords, if_then_else_, opens}
+use Rattle.rulebook.specs.Sizes.{blockWords, if_then_else_, opens, room}
 use Rattle.rulebook.specs.Starts.{opened}
 use Rattle.rulebook.specs.State.{State, busy, liveHandle, taskAt}
 use Rattle.theorems.specs.Terms.{Every, Harmless, HasGiven, In, IsRead, Once, Spent, byCell, causes, cellsOf, due, onVersion, price, shown, upTo, valuesOf}
@@ -53,9 +53,9 @@ module _ (f : Build) where
   abbrev pub RefusalZeros : Type 0
   RefusalZeros = (x : Asked) (p a : List ℕ) → 16 ≤ length a → (numberOf f x p a ≡ 0 → ⊥) → (numberOf f x p a ≡ 10 → ⊥) → (j : ℕ) → j < 16 → wordOf (answerAfter f x p a) j ≡ 0
 
-  -- On any pool open returns 0 where N, H and T are within their limits and there is room for a block, else 3, whatever the words are.
+  -- On any pool open returns 0 and tells B where N, H and T are within their limits and there is room for a block, else 3, whatever the words are.
   abbrev pub OpenDue : Type 0
-  OpenDue = (n h t : ℕ) (p a : List ℕ) → 16 ≤ length a → numberOf f (Open n h t) p a ≡ (if opens n h t (length p) then 0 else 3)
+  OpenDue = (n h t : ℕ) (p a : List ℕ) → 16 ≤ length a → let o = opens n h t (length p) in let x = Open n h t in (numberOf f x p a ≡ (if o then 0 else 3)) × (take 16 (answerAfter f x p a) ≡ (if o then room n h t (length p) else 0) ∷ replicate 15 0)
 
   -- Every other call returns 1 where words 0 to 5 do not describe the pool, whatever its arguments are.
   abbrev pub Undescribed : Type 0

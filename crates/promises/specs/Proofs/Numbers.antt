@@ -6,7 +6,7 @@ use mathlib.Core.List.{List, [], _∷_}
 use mathlib.Core.Path.{_∙_, _≡_, ap, refl, subst⁻¹, sym}
 use native.Mathlib.Omega.{arith}
 use lib.Dec.{eqb}
-use lib.ListN.{length}
+use lib.ListN.{length, replicate, take}
 use borrow.Author.Tests.{eqb-false, le-ltb}
 use Rattle.acts.specs.declared.Act.{Act}
 use Rattle.acts.specs.Sight.{Sight}
@@ -19,15 +19,15 @@ use Rattle.pool.specs.declared.Header.{Header}
 use Rattle.pool.specs.declared.Header.the-variants as header
 use Rattle.pool.specs.Header.{headerOf}
 use Rattle.pool.specs.Opened.{open-not, open-reply}
-use Rattle.pool.specs.Pool.{viewOf}
+use Rattle.pool.specs.Pool.{openIn, viewOf}
 use Rattle.rulebook.specs.Answers.{refusal}
 use Rattle.rulebook.specs.declared.Reply.{Reply}
 use Rattle.rulebook.specs.declared.Sizes.{Sizes}
 use Rattle.rulebook.specs.declared.Status.the-variants.{Live}
 use Rattle.rulebook.specs.Machine as machine
 use Rattle.rulebook.specs.Machine.{call}
-use Rattle.rulebook.specs.Sizes.{if_then_else_, opens}
-use Rattle.rulebook.specs.State.{State, slotAt}
+use Rattle.rulebook.specs.Sizes.{if_then_else_, opens, room}
+use Rattle.rulebook.specs.State.{State, listTo, slotAt}
 use Rattle.rulebook.specs.Steps.{step}
 use Rattle.rulebook.specs.Tests.{by-test}
 use Rattle.rules.specs.Blind.{erase-call}
@@ -40,16 +40,26 @@ use Rattle.theorems.specs.Proofs.Causes.{fits-call}
 use Rattle.theorems.specs.Proofs.Ten as ten
 use Rattle.theorems.specs.Terms.{Every, Harmless, causes, due, more, none}
 use Rattle.promises.specs.Promises.{OpenDue, RefusalDue, TenHarmless, Undescribed}
-use Rattle.promises.specs.Proofs.Calls.{spoken-case, spoken-long}
+use Rattle.promises.specs.Proofs.Calls.{spoken-case, spoken-long, telling}
 use Rattle.promises.specs.Said.{Outcome, isOpen, numberOf, poolAfter, spoken}
 
 -- ---- before the store is looked at
 
+-- the number and the words of open's answer, where it may open and where not
+abbrev Opens : Bool → ℕ → Outcome → Type 0
+Opens o b z = (z .1 ≡ (if o then 0 else 3)) × (take 16 (z .0 .1) ≡ (if o then b else 0) ∷ replicate 15 0)
+
+opens-told : (p : List ℕ) (n h t : ℕ) (q a : List ℕ) → Opens (opens n h t (length p)) (room n h t (length p)) ((q, telling (openIn p n h t .1) a), refusal (openIn p n h t .1))
+unfolding listTo
+opens-told p n h t q a =
+    by-test (opens n h t (length p))
+    (λ o. rw (o, open-reply p n h t o) (refl, refl))
+    (λ o. rw (o, open-not p n h t o) (refl, refl))
+
 pub open-due : OpenDue spoken
 unfolding asked
 open-due n h t p a l =
-    subst⁻¹ (λ (z : Outcome). z .1 ≡ (if opens n h t (length p) then 0 else 3)) (spoken-long (Open n h t) p a (le-ltb (length a) 16 l))
-    (by-test (opens n h t (length p)) (λ o. rw o (ap refusal (open-reply p n h t o))) (λ o. rw o (ap (λ (z : List ℕ × Reply). refusal (z .1)) (open-not p n h t o))))
+    subst⁻¹ (Opens (opens n h t (length p)) (room n h t (length p))) (spoken-long (Open n h t) p a (le-ltb (length a) 16 l)) (opens-told p n h t (openIn p n h t .0) a)
 
 -- 1, whatever is planned or looked for
 called-bad : (r : Header) (p : List ℕ) (f : Sight → Act) → r ≡ header.Bad → refusal (calledIn r p f .1) ≡ 1

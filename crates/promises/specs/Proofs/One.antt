@@ -61,19 +61,8 @@ abbrev Refuses : Reply → Type 0
 Refuses r = (refusal r ≡ 0 → ⊥) × (refusal r ≡ 10 → ⊥)
 
 accepts-not : (r : Reply) → accepted r ≡ true → Refuses r → ⊥
-accepts-not (reply.Refused n) e h =
-    by-test (eqb n 0) (λ a. h .0 (eqb-true n 0 a)) (λ a. h .1 (eqb-true n 10 (rw a at e)))
-accepts-not (reply.Full s) e h = h .1 refl
-accepts-not reply.Quiet e h = h .0 refl
-accepts-not (reply.Opened b) e h = h .0 refl
-accepts-not (reply.Handed i v) e h = h .0 refl
-accepts-not (reply.HandedLast s i v) e h = h .0 refl
-accepts-not (reply.Got s i v) e h = h .0 refl
-accepts-not (reply.Made s i) e h = h .0 refl
-accepts-not (reply.Shown x) e h = h .0 refl
-accepts-not (reply.ShownEntry x) e h = h .0 refl
-accepts-not (reply.ShownTask x) e h = h .0 refl
-accepts-not (reply.Reported i b) e h = h .0 refl
+accepts-not r e h =
+    by-test (eqb (refusal r) 0) (λ a. h .0 (eqb-true (refusal r) 0 a)) (λ a. h .1 (eqb-true (refusal r) 10 (rw a at e)))
 
 refuses-zeros : (r : Reply) → Refuses r → (j : ℕ) → word j r ≡ 0
 refuses-zeros (reply.Refused n) h j = refl

@@ -82,7 +82,7 @@ does lie =
 -- a store of n cells, h handles and one task that was opened in a pool of so many zeros, and the calls
 abbrev kept : (f : Build) → Promised f → (n h words : ℕ) → opens n h 1 words ≡ true → List Spoken → Kept f
 kept f P n h words o cs =
-    record { words = replicate words 0; cells = n; handles = h; tasks = 1; slice = slice; accepted = P .open-due n h 1 (replicate words 0) slice (omega arith) ∙ rw (length-replicate {A = ℕ} words 0, o); calls = cs }
+    record { words = replicate words 0; cells = n; handles = h; tasks = 1; slice = slice; accepted = P .open-due n h 1 (replicate words 0) slice (omega arith) .0 ∙ rw (length-replicate {A = ℕ} words 0, o); calls = cs }
 
 -- what lies in its blocks
 abbrev lies : ℕ → ℕ → ℕ → Lie
@@ -95,7 +95,7 @@ RefusingOpens f = (n h t : ℕ) (p a : List ℕ) → numberOf f (Open n h t) p a
 
 pub not-refusing-opens : (f : Build) → RefusingOpens f → Promised f → ⊥
 unfolding opens room controlWords blockWords
-not-refusing-opens f r P = r 1 1 1 (replicate 88 0) slice (P .open-due 1 1 1 (replicate 88 0) slice (omega arith))
+not-refusing-opens f r P = r 1 1 1 (replicate 88 0) slice (P .open-due 1 1 1 (replicate 88 0) slice (omega arith) .0)
 
 abbrev pub Refusing : Build → Type 0
 Refusing f = (x : Asked) (p a : List ℕ) → isOpen x ≡ false → numberOf f x p a ≡ 0 → ⊥
