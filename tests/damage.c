@@ -1,0 +1,213 @@
+/* Damaged pools: random words of a store at work are overwritten, then every call is made. Guard pages lie on both sides of the pool and of the
+ * answer slice, so that a read or a write outside them ends the program. The optional argument is the most words that are overwritten at a time;
+ * with 0 the test tries itself on kept stores. */
+#define _DEFAULT_SOURCE
+#include "harness.h"
+
+#include <sys/mman.h>
+#include <unistd.h>
+
+enum { MOST_WORDS = 8192, LEFT = 77, KEPT_HANDLES = 32 };
+
+struct sizes {
+    uint32_t n, h, t;
+    size_t words; /* whole pages, so that the guards touch the pool on both sides */
+};
+
+static struct sizes d;
+static uint32_t blocks;
+static uint32_t *pool, was[MOST_WORDS], *answer;
+static size_t room, page_words;
+static uint32_t handles[KEPT_HANDLES];
+static uint64_t calls, met[16];
+
+/* ---- memory between guards */
+
+static uint32_t *guarded(size_t words) {
+    size_t page = page_words * sizeof(uint32_t), size = (words * sizeof(uint32_t) + page - 1) / page * page;
+    char *at = mmap(NULL, size + 2 * page, PROT_READ | PROT_WRITE, MAP_PRIVATE | MAP_ANONYMOUS, -1, 0);
+    if (at == MAP_FAILED || mprotect(at, page, PROT_NONE) || mprotect(at + page + size, page, PROT_NONE)) {
+        perror("guard pages");
+        exit(2);
+    }
+    return (uint32_t *)(void *)(at + page);
+}
+
+static void release_guarded(uint32_t *at, size_t words) {
+    size_t page = page_words * sizeof(uint32_t), size = (words * sizeof(uint32_t) + page - 1) / page * page;
+    munmap((char *)(void *)at - page, size + 2 * page);
+}
+
+/* the answer slice: a whole page, or 16 words at either end of one */
+static void place_answer(uint32_t *page) {
+    uint32_t way = below(3);
+    room = way == 0 ? page_words : WINCH_ANSWER_WORDS;
+    answer = way == 1 ? page + page_words - WINCH_ANSWER_WORDS : page;
+    for (size_t j = 0; j < page_words; j++) page[j] = LEFT;
+}
+
+/* ---- what must hold of every call */
+
+/* document 01's refusal 1, of the words as they are now */
+static int describes(void) {
+    uint32_t n = was[1], h = was[2], t = was[3];
+    return was[0] == 0x00494B56 && was[4] == d.words && was[5] == 1 && n >= 1 && n <= 4096 && h >= 1 && h <= 256 && t >= 1 && t <= 16 &&
+           d.words >= WINCH_POOL_WORDS(n, h, t, 1);
+}
+
+static int zeros(void) {
+    for (int j = 0; j < WINCH_ANSWER_WORDS; j++)
+        if (answer[j]) return 0;
+    return 1;
+}
+
+static int rest_left(void) {
+    for (size_t j = WINCH_ANSWER_WORDS; j < room; j++)
+        if (answer[j] != LEFT) return 0;
+    return 1;
+}
+
+static uint32_t broken_rule(void) {
+    uint32_t a[WINCH_ANSWER_WORDS];
+    return winch_check(was, d.words, a, WINCH_ANSWER_WORDS) ? UINT32_MAX : a[0];
+}
+
+static int known(uint32_t refusal) { return refusal <= 12 && refusal != 3; }
+
+static uint32_t ask(struct call k) {
+    memcpy(was, pool, d.words * sizeof *pool);
+    uint32_t refusal = make_call(k, pool, d.words, answer, room);
+    calls++;
+    if (refusal < 16) met[refusal]++;
+    EXPECT(known(refusal) || (k.kind == OPEN && refusal == 3));
+    EXPECT(rest_left());
+    if (refusal && refusal != 10) EXPECT(zeros());
+    if ((refusal && refusal != 10) || k.kind >= LOOK_VERSION) EXPECT(memcmp(was, pool, d.words * sizeof *pool) == 0);
+    if (k.kind != OPEN && k.kind != CHECK) EXPECT((refusal == 1) == !describes());
+    if (k.kind == CHECK) EXPECT(refusal == 0 && answer[0] <= 7 && (answer[0] == 1) == !describes());
+    if (refusal == 2) EXPECT(broken_rule() != 0);
+    if (case_failed()) printf("  in %s(%u, %u, %u, %u): %u\n", kind_name(k.kind), k.a, k.b, k.c, k.d, refusal);
+    return refusal;
+}
+
+/* ---- calls with arguments that are mostly good */
+
+static uint32_t odd(uint32_t good) { return one_in(12) ? draw() : good; }
+
+static uint32_t some_handle(void) { return handles[below(KEPT_HANDLES)]; }
+
+static struct call some_call(enum kind kind) {
+    struct call k = {kind, 0, 0, 0, 0};
+    k.a = odd(below(kind == LOOK_TASK || kind <= STEP ? d.t : blocks));
+    if (kind == OPEN) k.a = 0; /* refused: an accepted one would mend the store */
+    if (kind == RELEASE) k.a = odd(some_handle());
+    k.b = odd(kind >= LOOK_CELL || kind == START_NEW ? below(d.n) : some_handle());
+    k.c = odd(below(d.n));
+    k.d = odd(kind == START_PAGE ? 1 + below(d.n) : draw());
+    return k;
+}
+
+static void remember(uint32_t handle) {
+    if (handle) handles[below(KEPT_HANDLES)] = handle;
+}
+
+static void make(enum kind kind) {
+    if (ask(some_call(kind)) == 0 && kind == STEP) remember(answer[WINCH_STEP_HANDLE]);
+}
+
+/* ---- a store at work */
+
+static void work(int count) {
+    for (int i = 0; i < 4; i++) make(START_NEW);
+    while (count--) {
+        uint32_t x = below(40);
+        make(x < 2 ? RELEASE : x < 3 ? START_NEW : x < 8 ? START_SET : x < 11 ? START_GET : x < 13 ? START_PAGE : STEP);
+    }
+}
+
+static void open_store(void) {
+    struct call k = {OPEN, d.n, d.h, d.t, 0};
+    for (size_t i = 0; i < d.words; i++) pool[i] = draw();
+    for (int j = 0; j < KEPT_HANDLES; j++) handles[j] = 256;
+    EXPECT(ask(k) == 0);
+    blocks = answer[0];
+}
+
+/* ---- damage */
+
+static uint32_t control_words(void) { return 16 + 4 * d.h + 32 * d.t; }
+
+static size_t some_place(void) {
+    uint32_t control = control_words(), used = control + blocks * (20 * d.n + 16);
+    switch (below(8)) {
+    case 0: return one_in(4) ? below(6) : below(16);
+    case 1:
+    case 2: return 16 + below(4 * d.h);
+    case 3:
+    case 4: return 16 + 4 * d.h + 32 * below(d.t) + below(17);
+    case 5: return control + below(blocks) * (20 * d.n + 16) + below(2);
+    default: return control + below(used - control);
+    }
+}
+
+static uint32_t some_word(uint32_t old) {
+    uint32_t edges[] = {0, 1, 2, 3, d.n - 1, d.n, d.n + 1, d.n + 2, 2 * d.n, d.h, d.t, blocks, blocks - 1, UINT32_MAX, 0x80000000u};
+    switch (below(4)) {
+    case 0: return draw();
+    case 1: return below(64);
+    case 2: return old ^ (1u << below(32));
+    default: return edges[below(sizeof edges / sizeof edges[0])];
+    }
+}
+
+static void damage(uint32_t most) {
+    for (uint32_t count = most ? 1 + below(most) : 0; count; count--) {
+        size_t at = some_place();
+        pool[at] = some_word(pool[at]);
+    }
+}
+
+/* every call at least once, steps more often */
+static void every_call(void) {
+    for (int kind = 0; kind < KINDS; kind++) make((enum kind)kind);
+    for (int i = 0; i < 30; i++) make(STEP);
+    for (int i = 0; i < 20; i++) make((enum kind)below(KINDS));
+}
+
+static void run(const struct sizes *sizes, uint32_t number, uint32_t most) {
+    static char name[80];
+    uint32_t *page = guarded(page_words);
+    snprintf(name, sizeof name, "run %u: N = %u, H = %u, T = %u, %u words", number, sizes->n, sizes->h, sizes->t, (unsigned)sizes->words);
+    plant(number);
+    begin_case(name);
+    d = *sizes;
+    pool = guarded(d.words);
+    place_answer(page);
+    for (int round = 0; round < 8 && !case_failed(); round++) {
+        open_store();
+        work(40 + (int)below(300));
+        for (int i = 0; i < 4 && !case_failed(); i++) {
+            damage(most);
+            every_call();
+        }
+    }
+    release_guarded(pool, d.words);
+    release_guarded(page, page_words);
+    end_case();
+}
+
+static void print_met(void) {
+    printf("%lu calls; refused", (unsigned long)calls);
+    for (int r = 1; r < 16; r++)
+        if (met[r]) printf(" %d: %lu", r, (unsigned long)met[r]);
+    printf("\n");
+}
+
+int main(int count, char **arguments) {
+    static const struct sizes sizes[] = {{2, 4, 2, 1024}, {16, 20, 4, 2048}, {5, 256, 16, 4096}, {100, 8, 3, 8192}, {1, 1, 1, 1024}, {33, 9, 5, 4096}};
+    uint32_t most = count > 1 ? (uint32_t)strtoul(arguments[1], NULL, 10) : 8;
+    page_words = (size_t)sysconf(_SC_PAGESIZE) / sizeof(uint32_t);
+    for (uint32_t number = 0; number < 180; number++) run(&sizes[number % 6], number, most);
+    print_met();
+    return summary();
+}
