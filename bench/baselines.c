@@ -5,7 +5,7 @@ uint32_t array_get(const uint32_t *table, uint32_t cell) { return table[cell]; }
 
 void array_set(uint32_t *table, uint32_t cell, uint32_t value) { table[cell] = value; }
 
-void array_page(const uint32_t *table, uint32_t from, uint32_t count, uint32_t *out) {
+void array_page(const uint32_t *restrict table, uint32_t from, uint32_t count, uint32_t *restrict out) {
     for (uint32_t i = 0; i < count; i++) out[i] = table[from + i];
 }
 
@@ -14,9 +14,8 @@ static uint32_t *table_of(const struct tables *s, uint32_t version) { return s->
 uint32_t tables_get(const struct tables *s, uint32_t version, uint32_t cell) { return table_of(s, version)[cell]; }
 
 uint32_t tables_set(struct tables *s, uint32_t version, uint32_t cell, uint32_t value) {
-    const uint32_t *from = table_of(s, version);
     uint32_t *to = table_of(s, s->count);
-    for (uint32_t i = 0; i < s->n; i++) to[i] = from[i];
+    array_page(table_of(s, version), 0, s->n, to);
     to[cell] = value;
     return s->count++;
 }

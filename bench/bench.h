@@ -34,7 +34,7 @@ void steps_plain(uint32_t n, uint32_t h, uint32_t t, uint32_t b);
 
 uint32_t array_get(const uint32_t *table, uint32_t cell);
 void array_set(uint32_t *table, uint32_t cell, uint32_t value);
-void array_page(const uint32_t *table, uint32_t from, uint32_t count, uint32_t *out);
+void array_page(const uint32_t *restrict table, uint32_t from, uint32_t count, uint32_t *restrict out);
 
 struct tables {
     uint32_t n, count;
