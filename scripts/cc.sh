@@ -23,4 +23,7 @@ for source in "$@"; do
     "$tools/bin/clang" --target=$target $(system_includes) "${flags[@]}" -fPIE -c "$source" -o "$object"
     objects+=("$object")
 done
-"$kit/on/$machine/bin/rattle-link" --target x86_64-unknown-linux-gnu --toolchain "$tools" -o "$out" "${objects[@]}" "$archive" > "$out.link.log"
+if ! "$kit/on/$machine/bin/rattle-link" --target x86_64-unknown-linux-gnu --toolchain "$tools" -o "$out" "${objects[@]}" "$archive" > "$out.link.log" 2>&1; then
+    cat "$out.link.log" >&2
+    exit 1
+fi

@@ -27,7 +27,7 @@ one() {
 program() {
     local name=$1 status=0 last
     shift
-    scripts/cc.sh "$out/$name" "$archive" "tests/$name.c" tests/harness.c
+    scripts/cc.sh "$out/$name" "$archive" "tests/$name.c" tests/harness.c tests/calls.c ${beside:-}
     scripts/run.sh "$archive" "$out/$name" "$@" > "$out/$name.log" 2>&1 || status=$?
     last=$(tail -n 1 "$out/$name.log")
     sed '$d' "$out/$name.log"
@@ -55,6 +55,7 @@ if [ "$archive" = plain ]; then
 else
     one 'the archive exports the functions of the header and no other name' scripts/symbols.sh "$archive"
     program damage
+    beside='tests/plain_calls.c bench/plain.c' program both
 fi
 one 'the example prints what it should' example_as_told
 echo "$passed passed, $failed failed"

@@ -196,6 +196,31 @@ static void run(const struct sizes *sizes, uint32_t number, uint32_t most) {
     end_case();
 }
 
+/* ---- pools above 4,294,967,295 words: only the first page of one is there */
+
+static void too_long(size_t words, uint32_t *page, uint32_t *at) {
+    uint32_t control[WINCH_CONTROL_WORDS(4, 2)];
+    d = (struct sizes){2, 4, 2, 208};
+    blocks = 2;
+    EXPECT(winch_open(at, d.words, d.n, d.h, d.t, page, WINCH_ANSWER_WORDS) == 0);
+    memcpy(control, at, sizeof control);
+    EXPECT(winch_open(at, words, d.n, d.h, d.t, page, WINCH_ANSWER_WORDS) == 3);
+    for (int kind = START_NEW; kind < CHECK; kind++) EXPECT(make_call(some_call((enum kind)kind), at, words, page, WINCH_ANSWER_WORDS) == 1);
+    EXPECT(winch_check(at, words, page, WINCH_ANSWER_WORDS) == 0 && page[0] == 1);
+    EXPECT(memcmp(control, at, sizeof control) == 0);
+}
+
+static void above_the_most(void) {
+    static const size_t over[] = {0, 1, 208, 4096};
+    size_t most = (size_t)UINT32_MAX + 1, size = (most + 8192) * sizeof(uint32_t);
+    char *at = mmap(NULL, size, PROT_NONE, MAP_PRIVATE | MAP_ANONYMOUS | MAP_NORESERVE, -1, 0);
+    uint32_t *page = guarded(page_words);
+    begin_case("pools above 4,294,967,295 words");
+    if (EXPECT(at != MAP_FAILED) && EXPECT(mprotect(at, page_words * sizeof(uint32_t), PROT_READ | PROT_WRITE) == 0))
+        for (int j = 0; j < 4; j++) too_long(most + over[j], page, (uint32_t *)(void *)at);
+    end_case();
+}
+
 static void print_met(void) {
     printf("%lu calls; refused", (unsigned long)calls);
     for (int r = 1; r < 16; r++)
@@ -208,6 +233,7 @@ int main(int count, char **arguments) {
     uint32_t most = count > 1 ? (uint32_t)strtoul(arguments[1], NULL, 10) : 8;
     page_words = (size_t)sysconf(_SC_PAGESIZE) / sizeof(uint32_t);
     for (uint32_t number = 0; number < 180; number++) run(&sizes[number % 6], number, most);
+    above_the_most();
     print_met();
     return summary();
 }

@@ -1,0 +1,122 @@
+/* The proved archive beside bench/plain.c: the same random calls on two pools. Every refusal, every answer word and every word of the pools is
+ * the same after every call. */
+#include "harness.h"
+
+enum { ROOM = 18, KEPT_HANDLES = 24 };
+
+uint32_t make_plain_call(struct call k, uint32_t *pool, size_t words, uint32_t *answer, size_t room);
+
+static uint32_t n, h, t, b, *pool, *plain, handles[KEPT_HANDLES];
+static uint32_t answer[ROOM], plain_answer[ROOM];
+static size_t words;
+static uint64_t calls, met[16];
+
+static uint32_t ask(struct call k) {
+    memset(answer, 77, sizeof answer);
+    memset(plain_answer, 77, sizeof plain_answer);
+    uint32_t refusal = make_call(k, pool, words, answer, ROOM), second = make_plain_call(k, plain, words, plain_answer, ROOM);
+    calls++;
+    if (refusal < 16) met[refusal]++;
+    EXPECT(refusal == second);
+    EXPECT(memcmp(answer, plain_answer, sizeof answer) == 0);
+    EXPECT(memcmp(pool, plain, words * sizeof *pool) == 0);
+    if (case_failed()) printf("  in %s(%u, %u, %u, %u): %u and %u\n", kind_name(k.kind), k.a, k.b, k.c, k.d, refusal, second);
+    return refusal;
+}
+
+/* ---- arguments that are mostly good */
+
+static uint32_t odd(uint32_t good) { return one_in(30) ? draw() % (good + 3) : good; }
+
+static uint32_t some_handle(void) { return odd(handles[below(KEPT_HANDLES)]); }
+
+/* a task that is busy, for a step, or idle, for a start, where there is one; a task's row begins with 0 where it is idle */
+static uint32_t some_task(int busy) {
+    uint32_t k = below(t);
+    for (uint32_t i = 0; i < t && (pool[16 + 4 * h + 32 * k] != 0) != busy; i++) k = (k + 1) % t;
+    return odd(k);
+}
+
+static struct call some_call(enum kind kind) {
+    struct call k = {kind, some_task(kind == STEP), some_handle(), odd(below(n)), draw()};
+    if (kind == RELEASE) k.a = k.b;
+    if (kind >= LOOK_VERSION && kind <= LOOK_ENTRY) k.a = odd(below(b));
+    if (kind >= LOOK_CELL) k.b = k.c;
+    if (kind == LOOK_ENTRY) k.c = below(4);
+    if (kind == START_PAGE) k.d = odd(1 + below(n));
+    if (kind == OPEN) k.b = 0; /* refused: the store goes on */
+    return k;
+}
+
+/* another one takes its places, where there is another */
+static void forget(uint32_t handle) {
+    uint32_t other = handle;
+    for (int j = 0; j < KEPT_HANDLES; j++)
+        if (handles[j] != handle) other = handles[j];
+    for (int j = 0; j < KEPT_HANDLES; j++)
+        if (handles[j] == handle) handles[j] = other;
+}
+
+/* whether it was accepted */
+static int make(enum kind kind) {
+    struct call k = some_call(kind);
+    uint32_t refusal = ask(k);
+    if (refusal == WINCH_NO_HANDLE || (kind == RELEASE && refusal == 0)) forget(k.b);
+    if (refusal) return 0;
+    if (kind == STEP && answer[WINCH_STEP_HANDLE]) handles[below(KEPT_HANDLES)] = answer[WINCH_STEP_HANDLE];
+    return 1;
+}
+
+static void some_calls(void) {
+    uint32_t x = below(100), count;
+    if (x < 46)
+        for (count = 1 + below(8); count && make(STEP); count--) continue;
+    else if (x < 54)
+        make(START_NEW);
+    else if (x < 74)
+        make(START_SET);
+    else if (x < 82)
+        make(START_GET);
+    else if (x < 88)
+        make(START_PAGE);
+    else if (x < 93)
+        make(RELEASE);
+    else
+        make((enum kind)below(KINDS));
+}
+
+static void open_store(void) {
+    struct call k = {OPEN, n, h, t, 0};
+    words = WINCH_POOL_WORDS(n, h, t, b) + below(20);
+    pool = malloc(words * sizeof *pool);
+    plain = malloc(words * sizeof *plain);
+    for (size_t i = 0; i < words; i++) pool[i] = plain[i] = draw();
+    for (int j = 0; j < KEPT_HANDLES; j++) handles[j] = 256;
+    EXPECT(ask(k) == 0);
+}
+
+static void run(uint32_t number, uint32_t count) {
+    static const uint32_t cells[] = {1, 2, 3, 5, 8, 16, 33}, slots[] = {2, 5, 20, 64}, tasks[] = {1, 2, 4, 16}, blocks[] = {1, 2, 3, 8};
+    static char name[80];
+    plant(5000 + number);
+    n = cells[number % 7];
+    h = slots[below(4)];
+    t = tasks[below(4)];
+    b = blocks[below(4)];
+    snprintf(name, sizeof name, "run %u: N = %u, H = %u, T = %u, B = %u", number, n, h, t, b);
+    begin_case(name);
+    open_store();
+    while (count-- && !case_failed()) some_calls();
+    free(pool);
+    free(plain);
+    end_case();
+}
+
+int main(void) {
+    for (uint32_t number = 0; number < 70; number++) run(number, 3000);
+    printf("%lu calls; refused", (unsigned long)calls);
+    for (int r = 1; r < 16; r++)
+        if (met[r]) printf(" %d: %lu", r, (unsigned long)met[r]);
+    printf("\n");
+    return summary();
+}
