@@ -4,7 +4,7 @@ set -euo pipefail
 cd "$(dirname "$0")/.."
 source scripts/kit.sh
 out=$1 archive=$2 objects=()
-flags=(--target=$target -std=c99 -Wall -Wextra -Wpedantic -Werror -O2 -fno-pie -fno-stack-protector -Iinclude -Ibench)
+flags=(--target="$target" -std=c99 -Wall -Wextra -Wpedantic -Werror -O2 -fno-pie -fno-stack-protector -Iinclude -Ibench)
 
 compile() {
     local source=$1 object=$2

@@ -20,7 +20,7 @@ objects=()
 for source in "$@"; do
     object=$out.$(basename "$source" .c).o
     # shellcheck disable=SC2046
-    "$tools/bin/clang" --target=$target $(system_includes) "${flags[@]}" -fPIE -c "$source" -o "$object"
+    "$tools/bin/clang" --target="$target" $(system_includes) "${flags[@]}" -fPIE -c "$source" -o "$object"
     objects+=("$object")
 done
 if ! "$kit/on/$machine/bin/rattle-link" --target x86_64-unknown-linux-gnu --toolchain "$tools" -o "$out" "${objects[@]}" "$archive" > "$out.link.log" 2>&1; then

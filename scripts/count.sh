@@ -11,11 +11,12 @@ work=$(mktemp -d)
 trap 'rm -rf "$work"' EXIT
 
 by_valgrind() {
-    local k
+    local k parts
     (cd "$work" && valgrind -q --tool=callgrind --dump-instr=yes --compress-strings=no --compress-pos=no --dump-before=bench_mark \
         --callgrind-out-file=out "$program" > labels)
     # a part for each mark: the code since the mark before. A line of costs is address, line, count; the one after 'calls=' is not its own
-    for k in $(seq 2 2 "$(ls "$work" | grep -c '^out\.[0-9]')"); do
+    parts=("$work"/out.*)
+    for k in $(seq 2 2 ${#parts[@]}); do
         awk -v mark="0x${mark##+(0)}" '
             /^calls=/ { getline; next }
             /^0x/ && length($1) >= length(mark) && (length($1) > length(mark) || $1 > mark) { n += $3 }

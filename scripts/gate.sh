@@ -2,7 +2,7 @@
 # The whole gate: every crate is proved from nothing, its must-fail edits and programs are tried, then the tests in C. The last line is the sum of both,
 # 'N passed, M failed'.
 set -uo pipefail
-cd "$(dirname "$0")/.."
+cd "$(dirname "$0")/.." || exit 2
 status=0 passed=0 failed=0
 log=$(mktemp)
 trap 'rm -f "$log"' EXIT
