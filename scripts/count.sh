@@ -19,14 +19,14 @@ by_valgrind() {
     for k in $(seq 2 2 ${#parts[@]}); do
         awk -v mark="0x${mark##+(0)}" '
             /^calls=/ { getline; next }
-            /^0x/ && length($1) >= length(mark) && (length($1) > length(mark) || $1 > mark) { n += $3 }
+            /^0x/ && length($1) >= length(mark) && (length($1) > length(mark) || $1 "" > mark "") { n += $3 }
             END { print n + 0 }' "$work/out.$k"
     done > "$work/counts"
 }
 
 by_emulator() {
     mkfifo "$work/trace"
-    awk -F / -v mark="$mark" '$2 == mark { if (++marks % 2 == 0) print n; n = 0; next } /^Trace/ { n++ }' < "$work/trace" > "$work/counts" &
+    awk -F / -v mark="$mark" '$2 "" == mark "" { if (++marks % 2 == 0) print n + 0; n = 0; next } /^Trace/ { n++ }' < "$work/trace" > "$work/counts" &
     "$tools/bin/qemu-x86_64" -one-insn-per-tb -d exec,nochain -dfilter "0x$mark+0x1000000" -D "$work/trace" "$program" > "$work/labels"
     wait
 }
