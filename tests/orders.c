@@ -29,7 +29,7 @@ struct model {
 static struct model m;
 static uint32_t *pool, answer[ROOM];
 static size_t words;
-static uint64_t calls, met[16], values;
+static uint64_t calls, met[16], values, news, sets, copies;
 
 /* ---- what the model knows */
 
@@ -155,6 +155,9 @@ static void made(struct task *k, uint32_t block, uint32_t number) {
     for (uint32_t i = 0; i < m.n; i++) x->table[i] = k->operation == WINCH_OPERATION_NEW ? k->value : old->table[i];
     x->table[k->cell] = k->value;
     EXPECT(says(2, k->steps, k->fresh + 256 * x->serial, 0, 0));
+    news += k->operation == WINCH_OPERATION_NEW;
+    sets += k->operation == WINCH_OPERATION_SET && !k->filling;
+    copies += k->operation == WINCH_OPERATION_SET && k->filling;
     k->operation = 0;
 }
 
@@ -452,9 +455,10 @@ int main(void) {
     static const int expected[] = {0, 4, 5, 6, 7, 8, 9, 10, 11, 12};
     for (size_t j = 0; j < sizeof expected / sizeof expected[0]; j++) EXPECT(met[expected[j]] > 100);
     EXPECT(met[1] == 0 && met[2] == 0 && met[3] == 0 && met[15] == 0);
-    EXPECT(calls >= 1000000);
+    EXPECT(calls >= 1000000 && news > 1000 && sets > 1000 && copies > 1000);
     end_case();
-    printf("%lu calls, %lu values compared; refused", (unsigned long)calls, (unsigned long)values);
+    printf("%lu calls; ended: %lu news, %lu sets in place, %lu copies; %lu values compared; refused", (unsigned long)calls, (unsigned long)news,
+           (unsigned long)sets, (unsigned long)copies, (unsigned long)values);
     for (int r = 1; r < 16; r++)
         if (met[r]) printf(" %d: %lu", r, (unsigned long)met[r]);
     printf("\n");
