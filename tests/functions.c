@@ -502,7 +502,6 @@ static void logs_and_rows(void) {
     steps(0, 1);
     ANSWERS(CALL(CHECK), 0);
     broken(TASK_0 + 8, 0, 6);                  /* a block being filled with a live handle */
-    broken(TASK_0 + 8, 2, 6);
     end_case();
 }
 
