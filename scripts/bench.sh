@@ -4,7 +4,12 @@ set -euo pipefail
 cd "$(dirname "$0")/.."
 scripts/setup.sh bench
 archive=$(scripts/archive.sh)
-docs=${DOCS:-docs}
+docs=docs
+# figures of an archive that was not built here do not go into the documents
+if [ -n "${ARCHIVE:-}" ]; then
+    docs=target/c
+    echo "the archive was given: the report goes to $docs"
+fi
 scripts/bench-build.sh target/c/bench "$archive"
 scripts/count.sh target/c/bench > target/c/bench.tsv
 if [ "$(uname -m)" = x86_64 ]; then
