@@ -649,7 +649,10 @@ static uint32_t first_broken(const uint32_t *pool, size_t words) {
     return every_block(pool, rule_7) ? 0 : 7;
 }
 
-uint32_t winch_check(const uint32_t *pool, size_t words, uint32_t *answer, size_t answer_words) {
+uint32_t plain_check(const uint32_t *pool, size_t words, uint32_t *answer, size_t answer_words);
+
+/* the tests' own check: rules 1 to 6, and of rule 7 the places of the logs */
+uint32_t plain_check(const uint32_t *pool, size_t words, uint32_t *answer, size_t answer_words) {
     if (answer_words < WINCH_ANSWER_WORDS) return WINCH_SHORT_ANSWER;
     clear(answer);
     answer[0] = first_broken(pool, words);

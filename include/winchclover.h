@@ -156,9 +156,6 @@ uint32_t winch_look_task(const uint32_t *pool, size_t pool_words, uint32_t task,
 /* Answer: live handles; the different blocks on which they stand. Refusals: 15, 1, 2. */
 uint32_t winch_report(const uint32_t *pool, size_t pool_words, uint32_t *answer, size_t answer_words);
 
-/* The whole-store check. Answer: 0 where every rule holds, else the number of the first that fails. Refusal: 15 alone. */
-uint32_t winch_check(const uint32_t *pool, size_t pool_words, uint32_t *answer, size_t answer_words);
-
 #ifdef __cplusplus
 }
 #endif

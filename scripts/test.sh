@@ -3,10 +3,10 @@
 set -euo pipefail
 cd "$(dirname "$0")/.."
 scripts/setup.sh build
-archive=plain out=target/c/plain
+archive=plain out=target/c/plain beside=
 if [ "${1:-}" != plain ]; then
     archive=$(scripts/archive.sh)
-    out=target/c
+    out=target/c beside=bench/plain.c
 fi
 mkdir -p "$out"
 passed=0 failed=0
@@ -27,7 +27,7 @@ one() {
 program() {
     local name=$1 status=0 last
     shift
-    scripts/cc.sh "$out/$name" "$archive" "tests/$name.c" tests/harness.c tests/calls.c ${beside:-}
+    scripts/cc.sh "$out/$name" "$archive" "tests/$name.c" tests/harness.c tests/calls.c ${beside-}
     scripts/run.sh "$archive" "$out/$name" "$@" > "$out/$name.log" 2>&1 || status=$?
     last=$(tail -n 1 "$out/$name.log")
     sed '$d' "$out/$name.log"

@@ -67,11 +67,6 @@ static int rest_left(void) {
     return 1;
 }
 
-static uint32_t broken_rule(void) {
-    uint32_t a[WINCH_ANSWER_WORDS];
-    return winch_check(was, d.words, a, WINCH_ANSWER_WORDS) ? UINT32_MAX : a[0];
-}
-
 static int known(uint32_t refusal) { return refusal <= 12 && refusal != 3; }
 
 static uint32_t ask(struct call k) {
@@ -85,7 +80,6 @@ static uint32_t ask(struct call k) {
     if ((refusal && refusal != 10) || k.kind >= LOOK_VERSION) EXPECT(memcmp(was, pool, d.words * sizeof *pool) == 0);
     if (k.kind != OPEN && k.kind != CHECK) EXPECT((refusal == 1) == !describes());
     if (k.kind == CHECK) EXPECT(refusal == 0 && answer[0] <= 7 && (answer[0] == 1) == !describes());
-    if (refusal == 2) EXPECT(broken_rule() != 0);
     if (case_failed()) printf("  in %s(%u, %u, %u, %u): %u\n", kind_name(k.kind), k.a, k.b, k.c, k.d, refusal);
     return refusal;
 }
@@ -206,7 +200,6 @@ static void too_long(size_t words, uint32_t *page, uint32_t *at) {
     memcpy(control, at, sizeof control);
     EXPECT(winch_open(at, words, d.n, d.h, d.t, page, WINCH_ANSWER_WORDS) == 3);
     for (int kind = START_NEW; kind < CHECK; kind++) EXPECT(make_call(some_call((enum kind)kind), at, words, page, WINCH_ANSWER_WORDS) == 1);
-    EXPECT(winch_check(at, words, page, WINCH_ANSWER_WORDS) == 0 && page[0] == 1);
     EXPECT(memcmp(control, at, sizeof control) == 0);
 }
 

@@ -512,7 +512,6 @@ static void damaged(uint32_t at, uint32_t to, struct call k) {
     uint32_t kept = pool[at];
     pool[at] = to;
     refuses(k, 2);
-    EXPECT(ask_with(CALL(CHECK), WORDS, ROOM) == 0 && answer[0] != 0);
     pool[at] = kept;
 }
 

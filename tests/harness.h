@@ -22,6 +22,9 @@ int summary(void);
 
 /* ---- calls */
 
+/* the whole-store check by hand, of bench/plain.c */
+uint32_t plain_check(const uint32_t *pool, size_t words, uint32_t *answer, size_t answer_words);
+
 enum kind {
     OPEN,
     START_NEW,
