@@ -1,2 +1,9 @@
 pub mod Rules
 pub mod Whole
+pub mod Decide
+pub mod Broken
+pub mod DecideBlocks
+pub mod DecideTasks
+pub mod Decided
+pub mod First
+pub mod Check

@@ -1,0 +1,240 @@
+-- What is computed of a pool decides each rule.
+-- Rests on DecideBlocks and DecideTasks, and on what the state has beyond the last row.
+use Prim.Native.Nat.{_+_, _<_, _≤_, min, ℕ}
+use mathlib.Core.Bool.{Bool, false, false≢true, true}
+use mathlib.Core.List.{List}
+use mathlib.Core.Path.{_∙_, _≡_, ap, refl, subst, sym}
+use native.Mathlib.Omega.{arith}
+use lib.Dec.{eqb, ltb}
+use lib.ListN.{List·getD-eq-default, getD}
+use borrow.Author.Tests.{ltb-false, ltb-true}
+use Rattle.rulebook.specs.declared.Sizes.{Sizes}
+use Rattle.rulebook.specs.declared.Slot.{Slot}
+use Rattle.rulebook.specs.declared.Stage.{Stage}
+use Rattle.rulebook.specs.declared.Status.{Status}
+use Rattle.rulebook.specs.declared.Task.{Task}
+use Rattle.block.specs.Sound.{Filling, Laid}
+use Rattle.block.specs.Walk.{Decides}
+use Rattle.bridge.specs.Sound.{filledTo}
+use Rattle.pool.specs.Codes.{codeOf}
+use Rattle.pool.specs.Places.{Spans, blockPart, slotPart, taskPart}
+use Rattle.pool.specs.Pool.{viewOf}
+use Rattle.pool.specs.Rows.{taskRead}
+use Rattle.pool.specs.View.{view-slots, view-tasks}
+use Rattle.rulebook.specs.State.{blockAt, fills, freed, idle, isLive, names, reserves, stood, writes}
+use Rattle.rulebook.specs.Tests.{by-test}
+use Rattle.rules.specs.Paced.{Paced, SlotRange, TaskRange}
+use Rattle.rules.specs.Rules.{TaskRule}
+use Rattle.theorems.specs.Terms.{entries}
+use Rattle.audit.specs.Broken.{blocksHold, everyBusy, everyLive, isReserved, rowsHold, rule2, rule3, rule4, rule5, rule6, rule7, tasksHold, writersHold}
+use Rattle.audit.specs.Decide.{_implies_, decide-all, decide-and, decide-as, decide-eq, decide-le, decide-lt, decide-never, decide-only, decide-some, decide-test, decide-three}
+use Rattle.audit.specs.DecideBlocks.{apart-decides, below-decides, filling-decides, laid-decides, readable-decides, rise-decides}
+use Rattle.audit.specs.DecideTasks.{live-decides, range-decides, reserved-decides, slot-decides, task-decides}
+use Rattle.audit.specs.Rules.{Lives, Rule2, Rule3, Rule4, Rule5, Rule6, Rule7, shown, slot, task, under}
+use Rattle.rulebook.specs.declared.Stage.the-variants as stage
+use Rattle.rulebook.specs.declared.Status.the-variants as status
+
+module _ (d : Sizes) (p : List ℕ) where
+  -- ---- beyond the last row
+
+  slot-beyond : (j : ℕ) → d .h ≤ j → slot d p j ≡ freed 0
+  slot-beyond j l = List·getD-eq-default (shown d p .slots) (freed 0) (omega (arith, view-slots d p))
+
+  task-beyond : (t : ℕ) → d .t ≤ t → task d p t ≡ idle
+  task-beyond t l = List·getD-eq-default (shown d p .tasks) idle (omega (arith, view-tasks d p))
+
+  -- a slot that is not free is there; a task at a stage that is not idle is there
+  slot-below : (f : Status → Bool) → f status.Free ≡ false → (j : ℕ) → f (slot d p j .status) ≡ true → j < d .h
+  slot-below f e j h =
+      by-test (ltb j (d .h))
+      (λ q. ltb-true j (d .h) q)
+      (λ q. absurd (false≢true (sym e ∙ ap (λ (x : Slot). f (x .status)) (sym (slot-beyond j (ltb-false j (d .h) q))) ∙ h)))
+
+  task-below : (g : Stage → Bool) → g stage.Idle ≡ false → (t : ℕ) → g (task d p t .stage) ≡ true → t < d .t
+  task-below g e t h =
+      by-test (ltb t (d .t))
+      (λ q. ltb-true t (d .t) q)
+      (λ q. absurd (false≢true (sym e ∙ ap (λ (x : Task). g (x .stage)) (sym (task-beyond t (ltb-false t (d .t) q))) ∙ h)))
+
+  live-below : (j : ℕ) → Lives d p j → j < d .h
+  live-below j l = slot-below isLive refl j (ap isLive l)
+
+  -- ---- every live handle, every task at some stages
+
+  module _ {f : ℕ → Bool} {P : ℕ → Type 0} (x : (j : ℕ) → Decides (f j) (P j)) where
+    every-live : Decides (everyLive d p f) ((j : ℕ) → Lives d p j → P j)
+    every-live =
+        decide-as (decide-all (d .h) (λ j _. decide-only (live-decides (slot d p j .status)) (λ _. x j)))
+        (λ h j l. h j (live-below j l) l)
+        (λ h j _ l. h j l)
+
+    every-busy : (g : Stage → Bool) → g stage.Idle ≡ false → Decides (everyBusy d p g f) ((t : ℕ) → g (task d p t .stage) ≡ true → P t)
+    every-busy g e =
+        decide-as (decide-all (d .t) (λ t _. decide-only (decide-test (g (task d p t .stage))) (λ _. x t)))
+        (λ h t b. h t (task-below g e t b) b)
+        (λ h t _ b. h t b)
+
+  -- no two at some stages have the same number
+  one-busy : (g : Stage → Bool) → g stage.Idle ≡ false → (n : Task → ℕ)
+      → Decides (everyBusy d p g (λ (t : ℕ). everyBusy d p g (λ (u : ℕ). eqb (n (task d p t)) (n (task d p u)) implies eqb t u)))
+      ((t u : ℕ) → g (task d p t .stage) ≡ true → g (task d p u .stage) ≡ true → n (task d p t) ≡ n (task d p u) → t ≡ u)
+  one-busy g e n =
+      decide-as (every-busy (λ t. every-busy (λ u. decide-only (decide-eq (n (task d p t)) (n (task d p u))) (λ _. decide-eq t u)) g e) g e)
+      (λ h t u a b. h t a u b)
+      (λ h t a u b. h t u a b)
+
+  -- ---- rules 2 to 6
+
+  pub decides-2 : Decides (rule2 d p) (Rule2 d p)
+  unfolding rule2
+  decides-2 =
+      decide-as
+      (every-live (λ j. decide-and (decide-lt (slot d p j .block) (d .b)) (decide-and (decide-le (slot d p j .number) (under d p j .version))
+      (decide-and (decide-le (slot d p j .number) (d .n)) (decide-le (under d p j .version) (d .n + 1))))))
+      (λ h. record { below-b = λ j l. h j l .0; at-most-v = λ j l. h j l .1 .0; at-most-n = λ j l. h j l .1 .1 .0; v-at-most = λ j l. h j l .1 .1 .1 })
+      (λ r j l. (r .below-b j l, (r .at-most-v j l, (r .at-most-n j l, r .v-at-most j l))))
+
+  pub decides-3 : Decides (rule3 d p) (Rule3 d p)
+  unfolding rule3
+  decides-3 =
+      decide-as
+      (every-live (λ j. decide-and (readable-decides (d .n) (blockPart p d (slot d p j .block))) (decide-and (below-decides (under d p j) (under d p j .version))
+      (decide-and (rise-decides (under d p j)) (apart-decides (under d p j))))))
+      (λ h. record { readable = λ j l. h j l .0; below-v = λ j l. h j l .1 .0; rising = λ j l. h j l .1 .1 .0; in-one-log = λ j l. h j l .1 .1 .1 })
+      (λ r j l. (r .readable j l, (r .below-v j l, (r .rising j l, r .in-one-log j l))))
+
+  pub decides-4 : Decides (rule4 d p) (Rule4 d p)
+  unfolding rule4
+  decides-4 =
+      decide-as (every-live (λ j. decide-le (entries (under d p j .logs)) (min (under d p j .version) (d .n))))
+      (λ h. record { few-entries = h })
+      (λ r. r .few-entries)
+
+  pub decides-5 : Decides (rule5 d p) (Rule5 d p)
+  unfolding rule5
+  decides-5 =
+      decide-as
+      (every-live (λ i. every-live (λ j.
+      decide-only (decide-eq (slot d p i .block) (slot d p j .block)) (λ _. decide-only (decide-eq (slot d p i .number) (slot d p j .number)) (λ _. decide-eq i j)))))
+      (λ h. record { apart = λ i j a b. h i a j b })
+      (λ r i a j b. r .apart i j a b)
+
+  pub decides-6 : Decides (rule6 d p) (Rule6 d p)
+  unfolding rule6
+  decides-6 =
+      decide-as
+      (decide-and
+      (every-busy (λ t. decide-three (live-decides (slot d p (task d p t .slot) .status)) (decide-eq (slot d p (task d p t .slot) .block) (task d p t .block)) (decide-eq (slot d p (task d p t .slot) .number) (task d p t .number))) names refl)
+      (decide-and
+      (decide-all (d .h) (λ j _. decide-only (reserved-decides (slot d p j .status)) (λ _. decide-some (d .t) (λ t _. decide-and (decide-test (reserves (task d p t .stage))) (decide-eq (task d p t .fresh) j)))))
+      (decide-and (one-busy reserves refl (λ (x : Task). x .fresh)) (decide-and
+      (every-busy (λ t. decide-and (decide-lt (task d p t .fresh) (d .h)) (reserved-decides (slot d p (task d p t .fresh) .status))) reserves refl)
+      (decide-and (one-busy fills refl (λ (x : Task). x .target))
+      (every-busy (λ t. every-live (λ j. decide-never (decide-eq (slot d p j .block) (task d p t .target)))) fills refl))))))
+      (λ h.
+      record {
+        named-live = h .0;
+        one-owner = λ j r. let o = h .1 .0 j (slot-below isReserved refl j (ap isReserved r)) r in (o .0, o .2 .0, o .2 .1);
+        own-slot = h .1 .1 .0;
+        is-reserved = h .1 .1 .1 .0;
+        one-filler = h .1 .1 .1 .1 .0;
+        none-on-it = λ t j f l. h .1 .1 .1 .1 .1 t f j l;
+      })
+      (λ r. (
+        r .named-live,
+        (
+          (λ j _ e. let o = r .one-owner j e in (o .0, task-below reserves refl (o .0) (o .1), (o .1, o .2))),
+          (r .own-slot, (r .is-reserved, (r .one-filler, λ t f j l. r .none-on-it t j f l))),
+        ),
+      ))
+
+  -- ---- rule 7
+
+  module _ (sp : Spans d p) where
+    idle-ranged : TaskRange d idle
+    idle-ranged =
+        record {
+          slot-below = sp .someHandles;
+          block-below = sp .someBlocks;
+          number-within = omega arith;
+          cell-below = sp .someCells;
+          until-within = omega arith;
+          fresh-below = sp .someHandles;
+          target-below = sp .someBlocks;
+          hand-below = sp .someCells;
+          pace = refl;
+        }
+
+    free-ranged : SlotRange (freed 0)
+    free-ranged = record { not-above = omega arith; nowhere = λ _. (refl, refl); carried = λ e. absurd (false≢true (ap isLive e)) }
+
+    -- what holds of every row, and of what lies beyond, holds
+    every-task : (P : Task → Type 0) → P idle → ((t : ℕ) → t < d .t → P (task d p t)) → (t : ℕ) → P (task d p t)
+    every-task P i h t = by-test (ltb t (d .t)) (λ e. h t (ltb-true t (d .t) e)) (λ e. subst P (sym (task-beyond t (ltb-false t (d .t) e))) i)
+
+    every-slot : (P : Slot → Type 0) → P (freed 0) → ((j : ℕ) → j < d .h → P (slot d p j)) → (j : ℕ) → P (slot d p j)
+    every-slot P i h j = by-test (ltb j (d .h)) (λ e. h j (ltb-true j (d .h) e)) (λ e. subst P (sym (slot-beyond j (ltb-false j (d .h) e))) i)
+
+    pub record Rows : Type 0 where
+      pub statuses : (j : ℕ) → j < d .h → getD (slotPart p j) 1 0 < 3
+      pub codes : (t : ℕ) → t < d .t → codeOf (taskRead (taskPart p d t) .stage) ≡ getD (taskPart p d t) 0 0
+      pub paced : Paced (shown d p)
+
+    rows-decide : Decides (rowsHold d p) Rows
+    unfolding rowsHold viewOf
+    rows-decide =
+        decide-as
+        (decide-and (decide-all (d .h) (λ j _. decide-lt (getD (slotPart p j) 1 0) 3))
+        (decide-and (decide-all (d .t) (λ t _. decide-eq (codeOf (taskRead (taskPart p d t) .stage)) (getD (taskPart p d t) 0 0)))
+        (decide-and (decide-all (d .t) (λ t _. range-decides d (task d p t))) (decide-all (d .h) (λ j _. slot-decides (slot d p j))))))
+        (λ h.
+        record {
+          statuses = h .0;
+          codes = h .1 .0;
+          paced = record { tasks = every-task (TaskRange d) idle-ranged (h .1 .1 .0); slots = every-slot SlotRange free-ranged (h .1 .1 .1) };
+        })
+        (λ r. (r .statuses, (r .codes, ((λ t _. r .paced .tasks t), λ j _. r .paced .slots j))))
+
+    writers-decide : Decides (writersHold d p) (((t u : ℕ) → writes (task d p t .stage) ≡ true → writes (task d p u .stage) ≡ true → task d p t .block ≡ task d p u .block → t ≡ u)
+        × (((t : ℕ) → writes (task d p t .stage) ≡ true → blockAt (shown d p) (task d p t .block) .version ≡ task d p t .number + 1)
+        × ((t : ℕ) → writes (task d p t .stage) ≡ true → (j : ℕ) → Lives d p j → slot d p j .block ≡ task d p t .block → slot d p j .number ≤ task d p t .number)))
+    unfolding writersHold
+    writers-decide =
+        decide-and (one-busy writes refl (λ (x : Task). x .block)) (decide-and
+        (every-busy (λ t. decide-eq (blockAt (shown d p) (task d p t .block) .version) (task d p t .number + 1)) writes refl)
+        (every-busy (λ t. every-live (λ j. decide-only (decide-eq (slot d p j .block) (task d p t .block)) (λ _. decide-le (slot d p j .number) (task d p t .number)))) writes refl))
+
+    tasks-decide : Decides (tasksHold d p) ((t : ℕ) → TaskRule (shown d p) (task d p t .stage) (task d p t))
+    unfolding tasksHold
+    tasks-decide =
+        decide-as (decide-all (d .t) (λ t _. task-decides (shown d p) (task d p t .stage) (task d p t)))
+        (every-task (λ (k : Task). TaskRule (shown d p) (k .stage) k) tt)
+        (λ h t _. h t)
+
+    blocks-decide : Decides (blocksHold d p) (((k : ℕ) → k < d .b → stood (shown d p) k ≡ true → Laid (d .n) (blockPart p d k))
+        × ((t : ℕ) → fills (task d p t .stage) ≡ true → Filling (filledTo (task d p t .stage) (d .n) (task d p t .hand .cell)) (d .n) (blockPart p d (task d p t .target))))
+    unfolding blocksHold
+    blocks-decide =
+        decide-and (decide-all (d .b) (λ k _. decide-only (decide-test (stood (shown d p) k)) (λ _. laid-decides (d .n) (blockPart p d k))))
+        (every-busy (λ t. filling-decides (filledTo (task d p t .stage) (d .n) (task d p t .hand .cell)) (d .n) (blockPart p d (task d p t .target))) fills refl)
+
+    pub decides-7 : Decides (rule7 d p) (Rule7 d p)
+    unfolding rule7
+    decides-7 =
+        decide-as (decide-and rows-decide (decide-and writers-decide (decide-and tasks-decide blocks-decide)))
+        (λ h.
+        record {
+          statuses = h .0 .statuses;
+          codes = h .0 .codes;
+          paced = h .0 .paced;
+          one-writer = h .1 .0 .0;
+          just-raised = h .1 .0 .1 .0;
+          none-above = λ t j w l. h .1 .0 .1 .1 t w j l;
+          tasks = h .1 .1 .0;
+          stood-laid = h .1 .1 .1 .0;
+          filling-laid = h .1 .1 .1 .1;
+        })
+        (λ r. (
+          record { statuses = r .statuses; codes = r .codes; paced = r .paced },
+          ((r .one-writer, (r .just-raised, λ t w j l. r .none-above t j w l)), (r .tasks, (r .stood-laid, r .filling-laid))),
+        ))
