@@ -2,12 +2,16 @@
 -- Rests on nothing.
 use Prim.Native.Nat.{_<_, _≤_, suc, zero, ℕ}
 use mathlib.Core.Bool.{Bool, _&&_, _||_, false, false≢true, not, true, true≢false}
-use mathlib.Core.Path.{_∙_, _≡_, refl, sym}
+use mathlib.Core.List.{List, [], _∷_}
+use mathlib.Core.Path.{_∙_, _≡_, ap, refl, sym}
 use native.Mathlib.Nat.{not-suc-le-zero}
 use native.Mathlib.Omega.{arith}
 use lib.Dec.{eqb, leb, ltb}
+use lib.ListN.{List·getD-eq-default, getD, length}
 use borrow.Author.Tests.{eqb-false, eqb-true, leb-false, leb-true, ltb-false, ltb-true}
 use Rattle.block.specs.Walk.{Decides}
+use Rattle.rulebook.specs.Lists.{any-none}
+use Rattle.rulebook.specs.State.{any}
 use Rattle.rulebook.specs.Tests.{by-test}
 use Rattle.theorems.specs.Terms.{allTo}
 
@@ -91,7 +95,7 @@ module _ (p : ℕ → Bool) where
       (λ f. (n, omega arith, rw f at e))
       (λ f. let r = all-not n f in (r .0, omega arith, r .2))
 
-  some-at : (n : ℕ) → someTo p n ≡ true → (i : ℕ) × (i < n) × (p i ≡ true)
+  pub some-at : (n : ℕ) → someTo p n ≡ true → (i : ℕ) × (i < n) × (p i ≡ true)
   unfolding someTo
   some-at zero e = absurd (false≢true e)
   some-at (suc n) e =
@@ -99,7 +103,7 @@ module _ (p : ℕ → Bool) where
       (λ f. let r = some-at n f in (r .0, omega arith, r .2))
       (λ f. (n, omega arith, rw f at e))
 
-  some-not : (n : ℕ) → someTo p n ≡ false → (i : ℕ) → i < n → p i ≡ false
+  pub some-not : (n : ℕ) → someTo p n ≡ false → (i : ℕ) → i < n → p i ≡ false
   unfolding someTo
   some-not zero e i l = absurd (not-suc-le-zero l)
   some-not (suc n) e i l =
@@ -121,3 +125,26 @@ module _ {p : ℕ → Bool} {P : ℕ → Type 0} (n : ℕ) (x : (i : ℕ) → i 
         yes = λ e. let r = some-at p n e in (r .0, r .1, x (r .0) (r .1) .yes (r .2));
         no = λ e h. x (h .0) (h .1) .no (some-not p n e (h .0) (h .1)) (h .2);
       }
+
+-- ---- some element of a list
+
+pub any-at : {A : Type 0} (p : A → Bool) (l : List A) (d : A) → any p l ≡ true → (j : ℕ) × (p (getD l j d) ≡ true)
+unfolding any
+any-at p [] d e = absurd (false≢true e)
+any-at p (x ∷ l) d e =
+    by-test (p x) (λ f. (0, f)) (λ f. let r = any-at p l d (rw f at e) in (suc (r .0), r .1))
+
+-- is some number at which one stands
+pub any-some-to : {A : Type 0} (p : A → Bool) (l : List A) (d : A) → p d ≡ false → (n : ℕ) → length l ≡ n → any p l ≡ someTo (λ (j : ℕ). p (getD l j d)) n
+any-some-to p l d e n h =
+    by-test (any p l)
+    (λ f.
+    let r = any-at p l d f in
+    f ∙ sym (by-test (someTo (λ (j : ℕ). p (getD l j d)) n) (λ g. g)
+    (λ g.
+    by-test (ltb (r .0) n)
+    (λ q. absurd (true≢false (sym (r .1) ∙ some-not (λ (j : ℕ). p (getD l j d)) n g (r .0) (ltb-true (r .0) n q))))
+    (λ q. absurd (true≢false (sym (r .1) ∙ ap p (List·getD-eq-default l d (omega (arith, ltb-false (r .0) n q))) ∙ e))))))
+    (λ f. f ∙ sym (by-test (someTo (λ (j : ℕ). p (getD l j d)) n)
+    (λ g. let r = some-at (λ (j : ℕ). p (getD l j d)) n g in absurd (true≢false (sym (r .2) ∙ any-none p l d f e (r .0))))
+    (λ g. g)))

@@ -7,3 +7,6 @@ pub mod DecideTasks
 pub mod Decided
 pub mod First
 pub mod Check
+pub mod Reads
+pub mod Logs
+pub mod Walk

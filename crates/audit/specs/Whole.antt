@@ -17,10 +17,9 @@ use Rattle.bridge.specs.Sound.{Sound}
 use Rattle.pool.specs.Header.{headerOf}
 use Rattle.pool.specs.Pool.{viewOf}
 use Rattle.rulebook.specs.Lists.{any-some}
-use Rattle.rulebook.specs.State.{freed, isLive, slotAt, stood}
-use Rattle.audit.specs.Rules.{Readable, Rule1, Rule2, Rule3, Rule4, Rule5, Rule6, Rule7}
+use Rattle.rulebook.specs.State.{freed, isLive, stood}
+use Rattle.audit.specs.Rules.{Lives, Readable, Rule1, Rule2, Rule3, Rule4, Rule5, Rule6, Rule7, shown, slot}
 use Rattle.pool.specs.declared.Header.the-variants as header
-use Rattle.rulebook.specs.declared.Status.the-variants as status
 
 -- rules 2 to 7 hold of a pool whose header gives the sizes d
 pub record Rest (d : Sizes) (p : List ℕ) : Type 0 where
@@ -48,14 +47,14 @@ one-header p r = at (headerOf p) refl
 
 -- ---- a sound store keeps the rules
 
-module _ {d : Sizes} {p : List ℕ} (s : Sound d p) where
-  -- a live handle's block is stood on
-  live-stood : (j : ℕ) → slotAt (viewOf d p) j .status ≡ status.Live → stood (viewOf d p) (slotAt (viewOf d p) j .block) ≡ true
-  unfolding stood
-  live-stood j l =
-      any-some (λ (x : Slot). isLive (x .status) && eqb (x .block) (slotAt (viewOf d p) j .block)) (viewOf d p .slots) (freed 0) j refl
-      (rw l (eq-eqb (slotAt (viewOf d p) j .block) _ refl))
+-- a live handle's block is stood on
+pub live-stood : (d : Sizes) (p : List ℕ) (j : ℕ) → Lives d p j → stood (shown d p) (slot d p j .block) ≡ true
+unfolding stood
+live-stood d p j l =
+    any-some (λ (x : Slot). isLive (x .status) && eqb (x .block) (slot d p j .block)) (shown d p .slots) (freed 0) j refl
+    (rw l (eq-eqb (slot d p j .block) _ refl))
 
+module _ {d : Sizes} {p : List ℕ} (s : Sound d p) where
   laid-readable : (n : ℕ) (w : List ℕ) → Laid n w → Readable n w
   laid-readable n w l =
       record {
@@ -74,7 +73,7 @@ module _ {d : Sizes} {p : List ℕ} (s : Sound d p) where
       record {
         two = record { below-b = v .below-b; at-most-v = v .at-most-v; at-most-n = v .at-most-n; v-at-most = v .v-at-most };
         three = record {
-          readable = λ j l. laid-readable (d .n) _ (s .stood-laid _ (v .below-b j l) (live-stood j l));
+          readable = λ j l. laid-readable (d .n) _ (s .stood-laid _ (v .below-b j l) (live-stood d p j l));
           below-v = v .below-v;
           rising = v .rising;
           in-one-log = v .in-one-log;

@@ -1,1 +1,3 @@
-// The whole-store check's rules, one by one. There is no code here yet: statements and proofs stand in specs/.
+// The whole-store check, rule by rule.
+mod reads;
+mod walk;

@@ -87,6 +87,10 @@ pub slot-good : (d : Sizes) (w : List ℕ) (s : Status) → getD w 1 0 < 3 → g
 unfolding slotRowOf slotFits slotRead
 slot-good d w s a b c f e = rw (e, lt-ltb _ _ a, lt-ltb _ _ b, le-leb _ _ c, le-leb _ _ f)
 
+pub slot-got : (w : List ℕ) (s : Status) → s ≡ statusFrom (getD w 1 0) → record { serial = getD w 0 0; status = s; block = getD w 2 0; number = getD w 3 0 } ≡ slotRead w
+unfolding slotRead
+slot-got w s e = rw e
+
 pub slot-written : (row : List ℕ) (x : Slot) (s : ℕ) → length row ≡ 4 → s ≡ statusCode (x .status)
     → set (set (set (set row 0 (x .serial)) 1 s) 2 (x .block)) 3 (x .number) ≡ slotWords x
 unfolding slotWords
@@ -138,7 +142,7 @@ task-written row k g b h e f =
         x ∷ k .slot ∷ k .block ∷ k .number ∷ k .cell ∷ k .value ∷ k .until ∷ k .fresh ∷ k .target
         ∷ k .hand .cell ∷ k .hand .guess ∷ k .hand .lo ∷ k .hand .hi ∷ y ∷ k .hand .candidate ∷ k .hand .version ∷ k .steps ∷ []
 
-pub ruleset rowing = (slot-good, slot-written, task-got, task-written)
+pub ruleset rowing = (slot-good, slot-got, slot-written, task-got, task-written)
 
 pub ruleset tasking = (task-coded, task-bad, task-good, fits-not, fits-as)
 

@@ -15,6 +15,8 @@ pub use headers::header_of;
 pub use opening::open;
 pub use rows::load_slot;
 pub use rows::load_task;
+pub use rows::slot_at;
+pub use rows::task_at;
 use rulebook::Sizes;
 ghost use mathlib.Core.Path.{_≡_};
 ghost use Prim.Native.Nat.{_≤_, _<_};

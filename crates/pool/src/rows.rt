@@ -18,8 +18,8 @@ ghost use mathlib.Core.List.{_++_};
 ghost use Prim.Native.Nat.{_+_, _<_, _≤_};
 ghost use lib.ListN.{length, drop};
 ghost use Rattle.rulebook.specs.Sizes.{mostHandles, mostTasks, handleRow, taskRow};
-ghost use Rattle.pool.specs.Places.{Spans, slotStart, taskStart};
-ghost use Rattle.pool.specs.Rows.{bitOf, slotWords, taskWords, taskFields, taskRead, standsIn, worksIn, taskFits, slotRowOf, taskRowOf};
+ghost use Rattle.pool.specs.Places.{Spans, slotStart, taskStart, slotPart, taskPart};
+ghost use Rattle.pool.specs.Rows.{bitOf, slotWords, slotRead, taskWords, taskFields, taskRead, standsIn, worksIn, taskFits, slotRowOf, taskRowOf};
 ghost use Rattle.pool.specs.Pool.{slotIn, taskIn, putSlot, putTask};
 
 const SLOT_WORDS: usize = HANDLE_ROW as usize;
@@ -74,6 +74,28 @@ fn slot_start(j: u32) -> usize
     ensures { λ r. ⌜ r ≡ slotStart j ⌝ }
 {
     wide(HEADER + HANDLE_ROW * j)
+}
+
+fn slot_of(row: &[u32]) -> Slot
+    requires { ⌜ length (now row) ≡ handleRow ⌝ }
+    ensures { λ r. ⌜ r ≡ slotRead (now (row .entry)) ⌝ }
+{
+    let s = status_from(row[1]);
+    Slot {
+        serial: row[0],
+        status: s,
+        block: row[2],
+        number: row[3],
+    }
+}
+
+// Slot j as it lies, whatever its ranges.
+pub fn slot_at(pool: &[u32], d: Sizes, j: u32) -> Slot
+    requires { ⌜ Spans d (now pool) × (j < d .h) ⌝ }
+    ensures { λ r. ⌜ r ≡ slotRead (slotPart (now (pool .entry)) j) ⌝ }
+{
+    let s = slot_start(j);
+    slot_of(&pool[s..s + SLOT_WORDS])
 }
 
 // The row of slot j.
@@ -221,6 +243,15 @@ fn task_start(d: Sizes, t: u32) -> usize
     ensures { λ r. ⌜ r ≡ taskStart d t ⌝ }
 {
     wide(HEADER + HANDLE_ROW * d.h + TASK_ROW * t)
+}
+
+// Task t as it lies, whatever its ranges.
+pub fn task_at(pool: &[u32], d: Sizes, t: u32) -> Task
+    requires { ⌜ Spans d (now pool) × (t < d .t) ⌝ }
+    ensures { λ r. ⌜ r ≡ taskRead (taskPart (now (pool .entry)) d t) ⌝ }
+{
+    let s = task_start(d, t);
+    task_of(&pool[s..s + TASK_WORDS])
 }
 
 // The row of task t.

@@ -1,0 +1,56 @@
+// Rule 3: the walk over blocks, cells and log entries.
+use super::reads::length_of;
+use super::reads::stamp_of;
+use super::reads::stood_on;
+use super::reads::version_of;
+use rulebook::Sizes;
+ghost use mathlib.Core.Path.{_≡_};
+ghost use Rattle.pool.specs.Places.{Spans};
+ghost use Rattle.audit.specs.Rules.{Rule2};
+ghost use Rattle.audit.specs.Broken.{rule3};
+
+// A mark for each version that an entry may have: V is at most N + 1.
+const VERSIONS: usize = 4097;
+
+// Left at the first entry that breaks the rule.
+pub fn logs_hold(words: &[u32], d: Sizes) -> bool
+    requires { ⌜ Spans d (now words) × Rule2 d (now words) ⌝ }
+    ensures { λ r. ⌜ r ≡ rule3 d (now (words .entry)) ⌝ }
+{
+    let mut kept = true;
+    'walk: for k in 0..d.b {
+        if !stood_on(words, d, k) {
+            continue;
+        }
+        let v = version_of(words, d, k);
+        let mut marks = [false; VERSIONS];
+        for i in 0..d.n {
+            let m = length_of(words, d, k, i);
+            if d.n < m {
+                kept = false;
+                break 'walk;
+            }
+            let mut least: u32 = 0;
+            let mut j: u32 = 0;
+            while j < m {
+                let at = stamp_of(words, d, k, i, j);
+                if v <= at {
+                    kept = false;
+                    break 'walk;
+                }
+                if at < least {
+                    kept = false;
+                    break 'walk;
+                }
+                if marks[at as usize] {
+                    kept = false;
+                    break 'walk;
+                }
+                marks[at as usize] = true;
+                least = at + 1;
+                j += 1;
+            }
+        }
+    }
+    kept
+}
