@@ -170,6 +170,10 @@ unfoldable pub slotHolds : Slot → Bool
 slotHolds x =
     leb (x .serial) lastSerial && ((not (isLive (x .status)) implies (eqb (x .block) 0 && eqb (x .number) 0)) && (isLive (x .status) implies leb 1 (x .serial)))
 
+-- the handle in x is live where the task k found it
+unfoldable pub standsAs : Task → Slot → Bool
+standsAs k x = isLive (x .status) && (eqb (x .block) (k .block) && eqb (x .number) (k .number))
+
 -- ---- the rules of a pool of words p, whose header gives the sizes d
 
 module _ (d : Sizes) (p : List ℕ) where
@@ -187,10 +191,14 @@ module _ (d : Sizes) (p : List ℕ) where
   abbrev pub everyBusy : (Stage → Bool) → (ℕ → Bool) → Bool
   everyBusy g f = everyTask (λ (t : ℕ). g (task d p t .stage) implies f t)
 
-  unfoldable pub rule2 : Bool
-  rule2 =
-      everyLive (λ (j : ℕ). ltb (slot d p j .block) (d .b) && (leb (slot d p j .number) (under d p j .version)
+  -- rule 2, of the handle in slot j
+  unfoldable pub rule2At : ℕ → Bool
+  rule2At j =
+      isLive (slot d p j .status) implies (ltb (slot d p j .block) (d .b) && (leb (slot d p j .number) (under d p j .version)
       && (leb (slot d p j .number) (d .n) && leb (under d p j .version) (d .n + 1))))
+
+  unfoldable pub rule2 : Bool
+  rule2 = everySlot rule2At
 
   unfoldable pub rule3 : Bool
   rule3 = everyLive (λ (j : ℕ). readableIn (d .n) (blockPart p d (slot d p j .block)) && (allBelow (under d p j) (under d p j .version) && (allRise (under d p j) && allApart (under d p j))))
@@ -198,18 +206,54 @@ module _ (d : Sizes) (p : List ℕ) where
   unfoldable pub rule4 : Bool
   rule4 = everyLive (λ (j : ℕ). leb (entries (under d p j .logs)) (min (under d p j .version) (d .n)))
 
+  -- rule 5: the handle x in slot i, against that in slot j and against every one
+  unfoldable pub clearOf : Slot → ℕ → ℕ → Bool
+  clearOf x i j = isLive (slot d p j .status) implies (eqb (x .block) (slot d p j .block) implies (eqb (x .number) (slot d p j .number) implies eqb i j))
+
+  unfoldable pub rule5At : ℕ → Bool
+  rule5At i = isLive (slot d p i .status) implies everySlot (clearOf (slot d p i) i)
+
   unfoldable pub rule5 : Bool
-  rule5 =
-      everyLive (λ (i : ℕ). everyLive (λ (j : ℕ). eqb (slot d p i .block) (slot d p j .block) implies (eqb (slot d p i .number) (slot d p j .number) implies eqb i j)))
+  rule5 = everySlot rule5At
+
+  -- rule 6: the handle that task t names is live where the task found it
+  unfoldable pub namedAt : ℕ → Bool
+  namedAt t = names (task d p t .stage) implies standsAs (task d p t) (slot d p (task d p t .slot))
+
+  -- the task x, which is task t, against task u: they have not reserved one slot
+  unfoldable pub freshApart : Task → ℕ → ℕ → Bool
+  freshApart x t u = reserves (task d p u .stage) implies (eqb (x .fresh) (task d p u .fresh) implies eqb t u)
+
+  -- what task t has reserved is reserved, and for it alone
+  unfoldable pub freshAt : ℕ → Bool
+  freshAt t =
+      reserves (task d p t .stage) implies (ltb (task d p t .fresh) (d .h) && (isReserved (slot d p (task d p t .fresh) .status)
+      && everyTask (freshApart (task d p t) t)))
+
+  -- they do not fill one block
+  unfoldable pub targetApart : Task → ℕ → ℕ → Bool
+  targetApart x t u = fills (task d p u .stage) implies (eqb (x .target) (task d p u .target) implies eqb t u)
+
+  -- the handle in slot j does not stand on what the task x fills
+  unfoldable pub offTarget : Task → ℕ → Bool
+  offTarget x j = isLive (slot d p j .status) implies not (eqb (slot d p j .block) (x .target))
+
+  -- a block that task t fills has no other task and no live handle
+  unfoldable pub targetAt : ℕ → Bool
+  targetAt t = fills (task d p t .stage) implies (everyTask (targetApart (task d p t) t) && everySlot (offTarget (task d p t)))
+
+  unfoldable pub rule6At : ℕ → Bool
+  rule6At t = namedAt t && (freshAt t && targetAt t)
+
+  -- task t has reserved slot j; a slot that is reserved belongs to a task
+  unfoldable pub ownsAt : ℕ → ℕ → Bool
+  ownsAt j t = reserves (task d p t .stage) && eqb (task d p t .fresh) j
+
+  unfoldable pub ownerAt : ℕ → Bool
+  ownerAt j = isReserved (slot d p j .status) implies someTo (ownsAt j) (d .t)
 
   unfoldable pub rule6 : Bool
-  rule6 =
-      everyBusy names (λ (t : ℕ). isLive (slot d p (task d p t .slot) .status) && (eqb (slot d p (task d p t .slot) .block) (task d p t .block) && eqb (slot d p (task d p t .slot) .number) (task d p t .number)))
-      && (everySlot (λ (j : ℕ). isReserved (slot d p j .status) implies someTo (λ (t : ℕ). reserves (task d p t .stage) && eqb (task d p t .fresh) j) (d .t))
-      && (everyBusy reserves (λ (t : ℕ). everyBusy reserves (λ (u : ℕ). eqb (task d p t .fresh) (task d p u .fresh) implies eqb t u))
-      && (everyBusy reserves (λ (t : ℕ). ltb (task d p t .fresh) (d .h) && isReserved (slot d p (task d p t .fresh) .status))
-      && (everyBusy fills (λ (t : ℕ). everyBusy fills (λ (u : ℕ). eqb (task d p t .target) (task d p u .target) implies eqb t u))
-      && everyBusy fills (λ (t : ℕ). everyLive (λ (j : ℕ). not (eqb (slot d p j .block) (task d p t .target))))))))
+  rule6 = everyTask rule6At && everySlot ownerAt
 
   -- rule 7, part by part: codes, ranges and paces; writers; each task's own facts; the blocks' words
   unfoldable pub rowsHold : Bool

@@ -79,7 +79,7 @@ decide-five x y z u v =
 -- ---- at every number, at some number below n
 
 module _ (p : ℕ → Bool) where
-  all-at : (n : ℕ) → allTo p n ≡ true → (i : ℕ) → i < n → p i ≡ true
+  pub all-at : (n : ℕ) → allTo p n ≡ true → (i : ℕ) → i < n → p i ≡ true
   unfolding allTo
   all-at zero e i l = absurd (not-suc-le-zero l)
   all-at (suc n) e i l =

@@ -26,7 +26,7 @@ use Rattle.rulebook.specs.Tests.{by-test}
 use Rattle.rules.specs.Paced.{Paced, SlotRange, TaskRange}
 use Rattle.rules.specs.Rules.{TaskRule}
 use Rattle.theorems.specs.Terms.{entries}
-use Rattle.audit.specs.Broken.{blocksHold, everyBusy, everyLive, isReserved, rowsHold, rule2, rule3, rule4, rule5, rule6, rule7, tasksHold, writersHold}
+use Rattle.audit.specs.Broken.{blocksHold, clearOf, everyBusy, everyLive, freshApart, freshAt, isReserved, namedAt, offTarget, ownerAt, ownsAt, rowsHold, rule2, rule2At, rule3, rule4, rule5, rule5At, rule6, rule6At, rule7, standsAs, targetApart, targetAt, tasksHold, writersHold}
 use Rattle.audit.specs.Decide.{_implies_, decide-all, decide-and, decide-as, decide-eq, decide-le, decide-lt, decide-never, decide-only, decide-some, decide-test, decide-three}
 use Rattle.audit.specs.DecideBlocks.{apart-decides, below-decides, filling-decides, laid-decides, readable-decides, rise-decides}
 use Rattle.audit.specs.DecideTasks.{live-decides, range-decides, reserved-decides, slot-decides, task-decides}
@@ -37,7 +37,7 @@ use Rattle.rulebook.specs.declared.Status.the-variants as status
 module _ (d : Sizes) (p : List ℕ) where
   -- ---- beyond the last row
 
-  slot-beyond : (j : ℕ) → d .h ≤ j → slot d p j ≡ freed 0
+  pub slot-beyond : (j : ℕ) → d .h ≤ j → slot d p j ≡ freed 0
   slot-beyond j l = List·getD-eq-default (shown d p .slots) (freed 0) (omega (arith, view-slots d p))
 
   task-beyond : (t : ℕ) → d .t ≤ t → task d p t ≡ idle
@@ -86,7 +86,7 @@ module _ (d : Sizes) (p : List ℕ) where
   -- ---- rules 2 to 6
 
   pub decides-2 : Decides (rule2 d p) (Rule2 d p)
-  unfolding rule2
+  unfolding rule2 rule2At
   decides-2 =
       decide-as
       (every-live (λ j. decide-and (decide-lt (slot d p j .block) (d .b)) (decide-and (decide-le (slot d p j .number) (under d p j .version))
@@ -111,7 +111,7 @@ module _ (d : Sizes) (p : List ℕ) where
       (λ r. r .few-entries)
 
   pub decides-5 : Decides (rule5 d p) (Rule5 d p)
-  unfolding rule5
+  unfolding rule5 rule5At clearOf
   decides-5 =
       decide-as
       (every-live (λ i. every-live (λ j.
@@ -119,33 +119,74 @@ module _ (d : Sizes) (p : List ℕ) where
       (λ h. record { apart = λ i j a b. h i a j b })
       (λ r i a j b. r .apart i j a b)
 
+  named-decides : (t : ℕ) → Decides (namedAt d p t) (names (task d p t .stage) ≡ true → Lives d p (task d p t .slot) × (slot d p (task d p t .slot) .block ≡ task d p t .block) × (slot d p (task d p t .slot) .number ≡ task d p t .number))
+  unfolding namedAt standsAs
+  named-decides t =
+      decide-only (decide-test (names (task d p t .stage))) (λ _.
+      decide-three (live-decides (slot d p (task d p t .slot) .status)) (decide-eq (slot d p (task d p t .slot) .block) (task d p t .block)) (decide-eq (slot d p (task d p t .slot) .number) (task d p t .number)))
+
+  -- what rule 6 says of a slot that task t has reserved, and of a block that it fills
+  pub record Fresh (t : ℕ) : Type 0 where
+    pub below : task d p t .fresh < d .h
+    pub reserved : slot d p (task d p t .fresh) .status ≡ status.Reserved
+    pub alone : (u : ℕ) → reserves (task d p u .stage) ≡ true → task d p t .fresh ≡ task d p u .fresh → t ≡ u
+
+  pub record Target (t : ℕ) : Type 0 where
+    pub alone : (u : ℕ) → fills (task d p u .stage) ≡ true → task d p t .target ≡ task d p u .target → t ≡ u
+    pub clear : (j : ℕ) → Lives d p j → slot d p j .block ≡ task d p t .target → ⊥
+
+  fresh-decides : (t : ℕ) → Decides (freshAt d p t) (reserves (task d p t .stage) ≡ true → Fresh t)
+  unfolding freshAt freshApart
+  fresh-decides t =
+      decide-only (decide-test (reserves (task d p t .stage))) (λ _.
+      decide-as
+      (decide-three (decide-lt (task d p t .fresh) (d .h)) (reserved-decides (slot d p (task d p t .fresh) .status))
+      (every-busy (λ u. decide-only (decide-eq (task d p t .fresh) (task d p u .fresh)) (λ _. decide-eq t u)) reserves refl))
+      (λ h. record { below = h .0; reserved = h .1; alone = h .2 })
+      (λ r. (r .below, r .reserved, r .alone)))
+
+  target-decides : (t : ℕ) → Decides (targetAt d p t) (fills (task d p t .stage) ≡ true → Target t)
+  unfolding targetAt targetApart offTarget
+  target-decides t =
+      decide-only (decide-test (fills (task d p t .stage))) (λ _.
+      decide-as
+      (decide-and (every-busy (λ u. decide-only (decide-eq (task d p t .target) (task d p u .target)) (λ _. decide-eq t u)) fills refl)
+      (every-live (λ j. decide-never (decide-eq (slot d p j .block) (task d p t .target)))))
+      (λ h. record { alone = h .0; clear = h .1 })
+      (λ r. (r .alone, r .clear)))
+
+  owner-decides : (j : ℕ) → Decides (ownerAt d p j) (slot d p j .status ≡ status.Reserved → (t : ℕ) × (reserves (task d p t .stage) ≡ true) × (task d p t .fresh ≡ j))
+  unfolding ownerAt ownsAt
+  owner-decides j =
+      decide-only (reserved-decides (slot d p j .status)) (λ _.
+      decide-as (decide-some (d .t) (λ t _. decide-and (decide-test (reserves (task d p t .stage))) (decide-eq (task d p t .fresh) j)))
+      (λ o. (o .0, o .2 .0, o .2 .1))
+      (λ o. (o .0, task-below reserves refl (o .0) (o .1), (o .1, o .2))))
+
   pub decides-6 : Decides (rule6 d p) (Rule6 d p)
-  unfolding rule6
+  unfolding rule6 rule6At
   decides-6 =
       decide-as
-      (decide-and
-      (every-busy (λ t. decide-three (live-decides (slot d p (task d p t .slot) .status)) (decide-eq (slot d p (task d p t .slot) .block) (task d p t .block)) (decide-eq (slot d p (task d p t .slot) .number) (task d p t .number))) names refl)
-      (decide-and
-      (decide-all (d .h) (λ j _. decide-only (reserved-decides (slot d p j .status)) (λ _. decide-some (d .t) (λ t _. decide-and (decide-test (reserves (task d p t .stage))) (decide-eq (task d p t .fresh) j)))))
-      (decide-and (one-busy reserves refl (λ (x : Task). x .fresh)) (decide-and
-      (every-busy (λ t. decide-and (decide-lt (task d p t .fresh) (d .h)) (reserved-decides (slot d p (task d p t .fresh) .status))) reserves refl)
-      (decide-and (one-busy fills refl (λ (x : Task). x .target))
-      (every-busy (λ t. every-live (λ j. decide-never (decide-eq (slot d p j .block) (task d p t .target)))) fills refl))))))
+      (decide-and (decide-all (d .t) (λ t _. decide-and (named-decides t) (decide-and (fresh-decides t) (target-decides t)))) (decide-all (d .h) (λ j _. owner-decides j)))
       (λ h.
+      let at : (g : Stage → Bool) → g stage.Idle ≡ false → (t : ℕ) → g (task d p t .stage) ≡ true → t < d .t = task-below in
       record {
-        named-live = h .0;
-        one-owner = λ j r. let o = h .1 .0 j (slot-below isReserved refl j (ap isReserved r)) r in (o .0, o .2 .0, o .2 .1);
-        own-slot = h .1 .1 .0;
-        is-reserved = h .1 .1 .1 .0;
-        one-filler = h .1 .1 .1 .1 .0;
-        none-on-it = λ t j f l. h .1 .1 .1 .1 .1 t f j l;
+        named-live = λ t n. h .0 t (at names refl t n) .0 n;
+        one-owner = λ j r. h .1 j (slot-below isReserved refl j (ap isReserved r)) r;
+        own-slot = λ t u a b. h .0 t (at reserves refl t a) .1 .0 a .alone u b;
+        is-reserved = λ t a. let f = h .0 t (at reserves refl t a) .1 .0 a in (f .below, f .reserved);
+        one-filler = λ t u a b. h .0 t (at fills refl t a) .1 .1 a .alone u b;
+        none-on-it = λ t j a. h .0 t (at fills refl t a) .1 .1 a .clear j;
       })
       (λ r. (
-        r .named-live,
-        (
-          (λ j _ e. let o = r .one-owner j e in (o .0, task-below reserves refl (o .0) (o .1), (o .1, o .2))),
-          (r .own-slot, (r .is-reserved, (r .one-filler, λ t f j l. r .none-on-it t j f l))),
-        ),
+        (λ t _. (
+          r .named-live t,
+          (
+            (λ a. record { below = r .is-reserved t a .0; reserved = r .is-reserved t a .1; alone = λ u b. r .own-slot t u a b }),
+            λ a. record { alone = λ u b. r .one-filler t u a b; clear = λ j. r .none-on-it t j a },
+          ),
+        )),
+        λ j _. r .one-owner j,
       ))
 
   -- ---- rule 7

@@ -10,3 +10,4 @@ pub mod Check
 pub mod Reads
 pub mod Logs
 pub mod Walk
+pub mod Ways

@@ -1,3 +1,5 @@
 // The whole-store check, rule by rule.
+mod handles;
+mod holds;
 mod reads;
 mod walk;
