@@ -203,8 +203,12 @@ module _ (d : Sizes) (p : List ℕ) where
   unfoldable pub rule3 : Bool
   rule3 = everyLive (λ (j : ℕ). readableIn (d .n) (blockPart p d (slot d p j .block)) && (allBelow (under d p j) (under d p j .version) && (allRise (under d p j) && allApart (under d p j))))
 
+  -- rule 4, of block k
+  unfoldable pub rule4At : ℕ → Bool
+  rule4At k = stood (shown d p) k implies leb (entries (blockAt (shown d p) k .logs)) (min (blockAt (shown d p) k .version) (d .n))
+
   unfoldable pub rule4 : Bool
-  rule4 = everyLive (λ (j : ℕ). leb (entries (under d p j .logs)) (min (under d p j .version) (d .n)))
+  rule4 = allTo rule4At (d .b)
 
   -- rule 5: the handle x in slot i, against that in slot j and against every one
   unfoldable pub clearOf : Slot → ℕ → ℕ → Bool

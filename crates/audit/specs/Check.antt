@@ -37,9 +37,9 @@ broken-one p r s a b = at (headerOf p) refl
 rest-first : (d : Sizes) (p : List ℕ) → Spans d p → First 2 (rulesOf d p) (brokenOf d p)
 unfolding brokenOf
 rest-first d p sp =
-    first-next 2 (Rule2 d p) _ (rule2 d p) _ (decides-2 d p) (first-next 3 (Rule3 d p) _ (rule3 d p) _ (decides-3 d p)
-    (first-next 4 (Rule4 d p) _ (rule4 d p) _ (decides-4 d p) (first-next 5 (Rule5 d p) _ (rule5 d p) _ (decides-5 d p)
-    (first-next 6 (Rule6 d p) _ (rule6 d p) _ (decides-6 d p) (first-next 7 (Rule7 d p) _ (rule7 d p) _ (decides-7 d p sp) (first-end 8))))))
+    first-next 2 (Rule2 d p) _ (rule2 d p) _ (decides-2 d p) (λ two. first-next 3 (Rule3 d p) _ (rule3 d p) _ (decides-3 d p)
+    (λ _. first-next 4 (Rule4 d p) _ (rule4 d p) _ (decides-4 d p two) (λ _. first-next 5 (Rule5 d p) _ (rule5 d p) _ (decides-5 d p)
+    (λ _. first-next 6 (Rule6 d p) _ (rule6 d p) _ (decides-6 d p) (λ _. first-next 7 (Rule7 d p) _ (rule7 d p) _ (decides-7 d p sp) (λ _. first-end 8))))))
 
 good : (p : List ℕ) (d : Sizes) → headerOf p ≡ header.Good d → brokenIn p ≡ brokenOf d p
 unfolding brokenIn

@@ -26,11 +26,13 @@ use Rattle.rulebook.specs.Tests.{by-test}
 use Rattle.rules.specs.Paced.{Paced, SlotRange, TaskRange}
 use Rattle.rules.specs.Rules.{TaskRule}
 use Rattle.theorems.specs.Terms.{entries}
-use Rattle.audit.specs.Broken.{blocksHold, clearOf, everyBusy, everyLive, freshApart, freshAt, isReserved, namedAt, offTarget, ownerAt, ownsAt, rowsHold, rule2, rule2At, rule3, rule4, rule5, rule5At, rule6, rule6At, rule7, standsAs, targetApart, targetAt, tasksHold, writersHold}
+use Rattle.audit.specs.Broken.{blocksHold, clearOf, everyBusy, everyLive, freshApart, freshAt, isReserved, namedAt, offTarget, ownerAt, ownsAt, rowsHold, rule2, rule2At, rule3, rule4, rule4At, rule5, rule5At, rule6, rule6At, rule7, standsAs, targetApart, targetAt, tasksHold, writersHold}
 use Rattle.audit.specs.Decide.{_implies_, decide-all, decide-and, decide-as, decide-eq, decide-le, decide-lt, decide-never, decide-only, decide-some, decide-test, decide-three}
 use Rattle.audit.specs.DecideBlocks.{apart-decides, below-decides, filling-decides, laid-decides, readable-decides, rise-decides}
 use Rattle.audit.specs.DecideTasks.{live-decides, range-decides, reserved-decides, slot-decides, task-decides}
+use Rattle.audit.specs.Logs.{stood-live}
 use Rattle.audit.specs.Rules.{Lives, Rule2, Rule3, Rule4, Rule5, Rule6, Rule7, shown, slot, task, under}
+use Rattle.audit.specs.Whole.{live-stood}
 use Rattle.rulebook.specs.declared.Stage.the-variants as stage
 use Rattle.rulebook.specs.declared.Status.the-variants as status
 
@@ -103,12 +105,16 @@ module _ (d : Sizes) (p : List ℕ) where
       (λ h. record { readable = λ j l. h j l .0; below-v = λ j l. h j l .1 .0; rising = λ j l. h j l .1 .1 .0; in-one-log = λ j l. h j l .1 .1 .1 })
       (λ r j l. (r .readable j l, (r .below-v j l, (r .rising j l, r .in-one-log j l))))
 
-  pub decides-4 : Decides (rule4 d p) (Rule4 d p)
-  unfolding rule4
-  decides-4 =
-      decide-as (every-live (λ j. decide-le (entries (under d p j .logs)) (min (under d p j .version) (d .n))))
-      (λ h. record { few-entries = h })
-      (λ r. r .few-entries)
+  -- where live handles stand on blocks of the pool
+  pub decides-4 : Rule2 d p → Decides (rule4 d p) (Rule4 d p)
+  unfolding rule4 rule4At
+  decides-4 two =
+      decide-as
+      (decide-all (d .b) (λ k _. decide-only (decide-test (stood (shown d p) k)) (λ _. decide-le (entries (blockAt (shown d p) k .logs)) (min (blockAt (shown d p) k .version) (d .n)))))
+      (λ h. record { few-entries = λ j l. h (slot d p j .block) (two .below-b j l) (live-stood d p j l) })
+      (λ r k _ e.
+      let s = stood-live d p k e in
+      subst (λ (x : ℕ). entries (blockAt (shown d p) x .logs) ≤ min (blockAt (shown d p) x .version) (d .n)) (s .2) (r .few-entries (s .0) (s .1)))
 
   pub decides-5 : Decides (rule5 d p) (Rule5 d p)
   unfolding rule5 rule5At clearOf

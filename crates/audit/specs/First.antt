@@ -74,10 +74,10 @@ first-broken q (suc m) (R ∷ Rs) l (inl a) =
     let e : q + suc m ≡ q + 1 + m = omega arith in
     first-broken (q + 1) m Rs (omega arith) (subst (First (q + 1) Rs) e (a .1))
 
--- one rule that a test decides, and the rest
-pub first-next : (q : ℕ) (R : Type 0) (Rs : List (Type 0)) (b : Bool) (r : ℕ) → Decides b R → First (q + 1) Rs r → First q (R ∷ Rs) (if not b then q else r)
+-- one rule that a test decides, and the rest, which are asked where it holds
+pub first-next : (q : ℕ) (R : Type 0) (Rs : List (Type 0)) (b : Bool) (r : ℕ) → Decides b R → (R → First (q + 1) Rs r) → First q (R ∷ Rs) (if not b then q else r)
 unfolding First
-first-next q R Rs true r x f = inl (x .yes refl, f)
+first-next q R Rs true r x f = let h = x .yes refl in inl (h, f h)
 first-next q R Rs false r x f = inr (x .no refl, refl)
 
 pub first-end : (q : ℕ) → First q [] 0

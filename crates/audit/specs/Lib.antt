@@ -11,3 +11,4 @@ pub mod Reads
 pub mod Logs
 pub mod Walk
 pub mod Ways
+pub mod Tally

@@ -67,7 +67,7 @@ module _ (d : Sizes) (p : List ℕ) where
 
   -- ---- rules 2 and 5
 
-  version-here : Spans d p → (k : ℕ) → k < d .b → (v : ℕ) → v ≡ versionSeen (versionIn (d .n) (blockPart p d k)) → blockAt (shown d p) k .version ≡ v
+  pub version-here : Spans d p → (k : ℕ) → k < d .b → (v : ℕ) → v ≡ versionSeen (versionIn (d .n) (blockPart p d k)) → blockAt (shown d p) k .version ≡ v
   unfolding versionIn
   version-here sp k l v e =
       ap (λ (b : Block). b .version) (view-block-at d p k l) ∙ version-at (d .n) (blockPart p d k)

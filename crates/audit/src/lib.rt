@@ -2,4 +2,5 @@
 mod handles;
 mod holds;
 mod reads;
+mod tally;
 mod walk;
