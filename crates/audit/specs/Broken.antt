@@ -259,29 +259,41 @@ module _ (d : Sizes) (p : List ℕ) where
   unfoldable pub rule6 : Bool
   rule6 = everyTask rule6At && everySlot ownerAt
 
-  -- rule 7, part by part: codes, ranges and paces; writers; each task's own facts; the blocks' words
-  unfoldable pub rowsHold : Bool
-  rowsHold =
-      everySlot (λ (j : ℕ). ltb (getD (slotPart p j) 1 0) 3)
-      && (everyTask (λ (t : ℕ). eqb (codeOf (taskRead (taskPart p d t) .stage)) (getD (taskPart p d t) 0 0))
-      && (everyTask (λ (t : ℕ). rangeHolds d (task d p t)) && everySlot (λ (j : ℕ). slotHolds (slot d p j))))
+  -- rule 7: slot j's code and ranges; task t's code, ranges and pace
+  unfoldable pub slotSound : ℕ → Bool
+  slotSound j = ltb (getD (slotPart p j) 1 0) 3 && slotHolds (slot d p j)
 
-  unfoldable pub writersHold : Bool
-  writersHold =
-      everyBusy writes (λ (t : ℕ). everyBusy writes (λ (u : ℕ). eqb (task d p t .block) (task d p u .block) implies eqb t u))
-      && (everyBusy writes (λ (t : ℕ). eqb (blockAt (shown d p) (task d p t .block) .version) (task d p t .number + 1))
-      && everyBusy writes (λ (t : ℕ). everyLive (λ (j : ℕ). eqb (slot d p j .block) (task d p t .block) implies leb (slot d p j .number) (task d p t .number))))
+  unfoldable pub taskSound : ℕ → Bool
+  taskSound t = eqb (codeOf (taskRead (taskPart p d t) .stage)) (getD (taskPart p d t) 0 0) && rangeHolds d (task d p t)
 
-  unfoldable pub tasksHold : Bool
-  tasksHold = everyTask (λ (t : ℕ). taskHolds (shown d p) (task d p t .stage) (task d p t))
+  -- two sets in place, past their exchange, are not on one block
+  unfoldable pub writerApart : Task → ℕ → ℕ → Bool
+  writerApart x t u = writes (task d p u .stage) implies (eqb (x .block) (task d p u .block) implies eqb t u)
 
-  unfoldable pub blocksHold : Bool
-  blocksHold =
-      allTo (λ (k : ℕ). stood (shown d p) k implies laidIn (d .n) (blockPart p d k)) (d .b)
-      && everyBusy fills (λ (t : ℕ). fillingIn (filledTo (task d p t .stage) (d .n) (task d p t .hand .cell)) (d .n) (blockPart p d (task d p t .target)))
+  -- the handle in slot j does not stand above the task x on its block
+  unfoldable pub notAbove : Task → ℕ → Bool
+  notAbove x j = isLive (slot d p j .status) implies (eqb (slot d p j .block) (x .block) implies leb (slot d p j .number) (x .number))
+
+  -- a set in place, past its exchange, is alone on its block, has raised V, and has no handle above it
+  unfoldable pub writerAt : ℕ → Bool
+  writerAt t =
+      writes (task d p t .stage) implies (eqb (blockAt (shown d p) (task d p t .block) .version) (task d p t .number + 1)
+      && (everyTask (writerApart (task d p t) t) && everySlot (notAbove (task d p t))))
+
+  -- what task t at its stage has done
+  unfoldable pub factsAt : ℕ → Bool
+  factsAt t = taskHolds (shown d p) (task d p t .stage) (task d p t)
+
+  -- the words of block k, where a live handle stands on it; and of the block that task t fills
+  unfoldable pub laidAt : ℕ → Bool
+  laidAt k = stood (shown d p) k implies laidIn (d .n) (blockPart p d k)
+
+  unfoldable pub fillingAt : ℕ → Bool
+  fillingAt t =
+      fills (task d p t .stage) implies fillingIn (filledTo (task d p t .stage) (d .n) (task d p t .hand .cell)) (d .n) (blockPart p d (task d p t .target))
 
   unfoldable pub rule7 : Bool
-  rule7 = rowsHold && (writersHold && (tasksHold && blocksHold))
+  rule7 = everySlot slotSound && (everyTask taskSound && (everyTask writerAt && (everyTask factsAt && (allTo laidAt (d .b) && everyTask fillingAt))))
 
   -- the number of the first of rules 2 to 7 that is broken, or 0
   unfoldable pub brokenOf : ℕ

@@ -5,7 +5,7 @@ use mathlib.Core.Bool.{Bool, false, false≢true, true}
 use mathlib.Core.List.{List}
 use mathlib.Core.Path.{_∙_, _≡_, ap, refl, subst, sym}
 use native.Mathlib.Omega.{arith}
-use lib.Dec.{eqb, ltb}
+use lib.Dec.{ltb}
 use lib.ListN.{List·getD-eq-default, getD}
 use borrow.Author.Tests.{ltb-false, ltb-true}
 use Rattle.rulebook.specs.declared.Sizes.{Sizes}
@@ -23,11 +23,11 @@ use Rattle.pool.specs.Rows.{taskRead}
 use Rattle.pool.specs.View.{view-slots, view-tasks}
 use Rattle.rulebook.specs.State.{blockAt, fills, freed, idle, isLive, names, reserves, stood, writes}
 use Rattle.rulebook.specs.Tests.{by-test}
-use Rattle.rules.specs.Paced.{Paced, SlotRange, TaskRange}
+use Rattle.rules.specs.Paced.{SlotRange, TaskRange}
 use Rattle.rules.specs.Rules.{TaskRule}
-use Rattle.theorems.specs.Terms.{entries}
-use Rattle.audit.specs.Broken.{blocksHold, clearOf, everyBusy, everyLive, freshApart, freshAt, isReserved, namedAt, offTarget, ownerAt, ownsAt, rowsHold, rule2, rule2At, rule3, rule4, rule4At, rule5, rule5At, rule6, rule6At, rule7, standsAs, targetApart, targetAt, tasksHold, writersHold}
-use Rattle.audit.specs.Decide.{_implies_, decide-all, decide-and, decide-as, decide-eq, decide-le, decide-lt, decide-never, decide-only, decide-some, decide-test, decide-three}
+use Rattle.theorems.specs.Terms.{allTo, entries}
+use Rattle.audit.specs.Broken.{clearOf, everyBusy, everyLive, everySlot, everyTask, factsAt, fillingAt, freshApart, freshAt, isReserved, laidAt, namedAt, notAbove, offTarget, ownerAt, ownsAt, rule2, rule2At, rule3, rule4, rule4At, rule5, rule5At, rule6, rule6At, rule7, slotSound, standsAs, targetApart, targetAt, taskSound, writerApart, writerAt}
+use Rattle.audit.specs.Decide.{decide-all, decide-and, decide-as, decide-eq, decide-le, decide-lt, decide-never, decide-only, decide-some, decide-test, decide-three}
 use Rattle.audit.specs.DecideBlocks.{apart-decides, below-decides, filling-decides, laid-decides, readable-decides, rise-decides}
 use Rattle.audit.specs.DecideTasks.{live-decides, range-decides, reserved-decides, slot-decides, task-decides}
 use Rattle.audit.specs.Logs.{stood-live}
@@ -75,15 +75,6 @@ module _ (d : Sizes) (p : List ℕ) where
         decide-as (decide-all (d .t) (λ t _. decide-only (decide-test (g (task d p t .stage))) (λ _. x t)))
         (λ h t b. h t (task-below g e t b) b)
         (λ h t _ b. h t b)
-
-  -- no two at some stages have the same number
-  one-busy : (g : Stage → Bool) → g stage.Idle ≡ false → (n : Task → ℕ)
-      → Decides (everyBusy d p g (λ (t : ℕ). everyBusy d p g (λ (u : ℕ). eqb (n (task d p t)) (n (task d p u)) implies eqb t u)))
-      ((t u : ℕ) → g (task d p t .stage) ≡ true → g (task d p u .stage) ≡ true → n (task d p t) ≡ n (task d p u) → t ≡ u)
-  one-busy g e n =
-      decide-as (every-busy (λ t. every-busy (λ u. decide-only (decide-eq (n (task d p t)) (n (task d p u))) (λ _. decide-eq t u)) g e) g e)
-      (λ h t u a b. h t a u b)
-      (λ h t a u b. h t u a b)
 
   -- ---- rules 2 to 6
 
@@ -222,66 +213,75 @@ module _ (d : Sizes) (p : List ℕ) where
     every-slot : (P : Slot → Type 0) → P (freed 0) → ((j : ℕ) → j < d .h → P (slot d p j)) → (j : ℕ) → P (slot d p j)
     every-slot P i h j = by-test (ltb j (d .h)) (λ e. h j (ltb-true j (d .h) e)) (λ e. subst P (sym (slot-beyond j (ltb-false j (d .h) e))) i)
 
-    pub record Rows : Type 0 where
-      pub statuses : (j : ℕ) → j < d .h → getD (slotPart p j) 1 0 < 3
-      pub codes : (t : ℕ) → t < d .t → codeOf (taskRead (taskPart p d t) .stage) ≡ getD (taskPart p d t) 0 0
-      pub paced : Paced (shown d p)
+    slots-decide : Decides (everySlot d p (slotSound d p)) (((j : ℕ) → j < d .h → getD (slotPart p j) 1 0 < 3) × ((j : ℕ) → SlotRange (slot d p j)))
+    unfolding slotSound
+    slots-decide =
+        decide-as (decide-all (d .h) (λ j _. decide-and (decide-lt (getD (slotPart p j) 1 0) 3) (slot-decides (slot d p j))))
+        (λ h. ((λ j l. h j l .0), every-slot SlotRange free-ranged (λ j l. h j l .1)))
+        (λ r j l. (r .0 j l, r .1 j))
 
-    rows-decide : Decides (rowsHold d p) Rows
-    unfolding rowsHold viewOf
+    rows-decide : Decides (everyTask d p (taskSound d p)) (((t : ℕ) → t < d .t → codeOf (taskRead (taskPart p d t) .stage) ≡ getD (taskPart p d t) 0 0) × ((t : ℕ) → TaskRange d (task d p t)))
+    unfolding taskSound
     rows-decide =
-        decide-as
-        (decide-and (decide-all (d .h) (λ j _. decide-lt (getD (slotPart p j) 1 0) 3))
-        (decide-and (decide-all (d .t) (λ t _. decide-eq (codeOf (taskRead (taskPart p d t) .stage)) (getD (taskPart p d t) 0 0)))
-        (decide-and (decide-all (d .t) (λ t _. range-decides d (task d p t))) (decide-all (d .h) (λ j _. slot-decides (slot d p j))))))
-        (λ h.
-        record {
-          statuses = h .0;
-          codes = h .1 .0;
-          paced = record { tasks = every-task (TaskRange d) idle-ranged (h .1 .1 .0); slots = every-slot SlotRange free-ranged (h .1 .1 .1) };
-        })
-        (λ r. (r .statuses, (r .codes, ((λ t _. r .paced .tasks t), λ j _. r .paced .slots j))))
+        decide-as (decide-all (d .t) (λ t _. decide-and (decide-eq (codeOf (taskRead (taskPart p d t) .stage)) (getD (taskPart p d t) 0 0)) (range-decides d (task d p t))))
+        (λ h. ((λ t l. h t l .0), every-task (TaskRange d) idle-ranged (λ t l. h t l .1)))
+        (λ r t l. (r .0 t l, r .1 t))
 
-    writers-decide : Decides (writersHold d p) (((t u : ℕ) → writes (task d p t .stage) ≡ true → writes (task d p u .stage) ≡ true → task d p t .block ≡ task d p u .block → t ≡ u)
-        × (((t : ℕ) → writes (task d p t .stage) ≡ true → blockAt (shown d p) (task d p t .block) .version ≡ task d p t .number + 1)
-        × ((t : ℕ) → writes (task d p t .stage) ≡ true → (j : ℕ) → Lives d p j → slot d p j .block ≡ task d p t .block → slot d p j .number ≤ task d p t .number)))
-    unfolding writersHold
+    -- what rule 7 says of a set in place, past its exchange
+    pub record Writer (t : ℕ) : Type 0 where
+      pub raised : blockAt (shown d p) (task d p t .block) .version ≡ task d p t .number + 1
+      pub alone : (u : ℕ) → writes (task d p u .stage) ≡ true → task d p t .block ≡ task d p u .block → t ≡ u
+      pub highest : (j : ℕ) → Lives d p j → slot d p j .block ≡ task d p t .block → slot d p j .number ≤ task d p t .number
+
+    writers-decide : Decides (everyTask d p (writerAt d p)) ((t : ℕ) → writes (task d p t .stage) ≡ true → Writer t)
+    unfolding writerAt writerApart notAbove
     writers-decide =
-        decide-and (one-busy writes refl (λ (x : Task). x .block)) (decide-and
-        (every-busy (λ t. decide-eq (blockAt (shown d p) (task d p t .block) .version) (task d p t .number + 1)) writes refl)
-        (every-busy (λ t. every-live (λ j. decide-only (decide-eq (slot d p j .block) (task d p t .block)) (λ _. decide-le (slot d p j .number) (task d p t .number)))) writes refl))
+        every-busy (λ t.
+        decide-as
+        (decide-three (decide-eq (blockAt (shown d p) (task d p t .block) .version) (task d p t .number + 1))
+        (every-busy (λ u. decide-only (decide-eq (task d p t .block) (task d p u .block)) (λ _. decide-eq t u)) writes refl)
+        (every-live (λ j. decide-only (decide-eq (slot d p j .block) (task d p t .block)) (λ _. decide-le (slot d p j .number) (task d p t .number)))))
+        (λ h. record { raised = h .0; alone = h .1; highest = h .2 })
+        (λ r. (r .raised, r .alone, r .highest))) writes refl
 
-    tasks-decide : Decides (tasksHold d p) ((t : ℕ) → TaskRule (shown d p) (task d p t .stage) (task d p t))
-    unfolding tasksHold
-    tasks-decide =
+    facts-decide : Decides (everyTask d p (factsAt d p)) ((t : ℕ) → TaskRule (shown d p) (task d p t .stage) (task d p t))
+    unfolding factsAt
+    facts-decide =
         decide-as (decide-all (d .t) (λ t _. task-decides (shown d p) (task d p t .stage) (task d p t)))
         (every-task (λ (k : Task). TaskRule (shown d p) (k .stage) k) tt)
         (λ h t _. h t)
 
-    blocks-decide : Decides (blocksHold d p) (((k : ℕ) → k < d .b → stood (shown d p) k ≡ true → Laid (d .n) (blockPart p d k))
-        × ((t : ℕ) → fills (task d p t .stage) ≡ true → Filling (filledTo (task d p t .stage) (d .n) (task d p t .hand .cell)) (d .n) (blockPart p d (task d p t .target))))
-    unfolding blocksHold
-    blocks-decide =
-        decide-and (decide-all (d .b) (λ k _. decide-only (decide-test (stood (shown d p) k)) (λ _. laid-decides (d .n) (blockPart p d k))))
-        (every-busy (λ t. filling-decides (filledTo (task d p t .stage) (d .n) (task d p t .hand .cell)) (d .n) (blockPart p d (task d p t .target))) fills refl)
+    blocks-decide : Decides (allTo (laidAt d p) (d .b)) ((k : ℕ) → k < d .b → stood (shown d p) k ≡ true → Laid (d .n) (blockPart p d k))
+    unfolding laidAt
+    blocks-decide = decide-all (d .b) (λ k _. decide-only (decide-test (stood (shown d p) k)) (λ _. laid-decides (d .n) (blockPart p d k)))
+
+    fillers-decide : Decides (everyTask d p (fillingAt d p)) ((t : ℕ) → fills (task d p t .stage) ≡ true → Filling (filledTo (task d p t .stage) (d .n) (task d p t .hand .cell)) (d .n) (blockPart p d (task d p t .target)))
+    unfolding fillingAt
+    fillers-decide = every-busy (λ t. filling-decides (filledTo (task d p t .stage) (d .n) (task d p t .hand .cell)) (d .n) (blockPart p d (task d p t .target))) fills refl
 
     pub decides-7 : Decides (rule7 d p) (Rule7 d p)
-    unfolding rule7
+    unfolding rule7 viewOf
     decides-7 =
-        decide-as (decide-and rows-decide (decide-and writers-decide (decide-and tasks-decide blocks-decide)))
+        decide-as (decide-and slots-decide (decide-and rows-decide (decide-and writers-decide (decide-and facts-decide (decide-and blocks-decide fillers-decide)))))
         (λ h.
         record {
-          statuses = h .0 .statuses;
-          codes = h .0 .codes;
-          paced = h .0 .paced;
-          one-writer = h .1 .0 .0;
-          just-raised = h .1 .0 .1 .0;
-          none-above = λ t j w l. h .1 .0 .1 .1 t w j l;
-          tasks = h .1 .1 .0;
-          stood-laid = h .1 .1 .1 .0;
-          filling-laid = h .1 .1 .1 .1;
+          statuses = h .0 .0;
+          codes = h .1 .0 .0;
+          paced = record { tasks = h .1 .0 .1; slots = h .0 .1 };
+          one-writer = λ t u a b. h .1 .1 .0 t a .alone u b;
+          just-raised = λ t w. h .1 .1 .0 t w .raised;
+          none-above = λ t j w. h .1 .1 .0 t w .highest j;
+          tasks = h .1 .1 .1 .0;
+          stood-laid = h .1 .1 .1 .1 .0;
+          filling-laid = h .1 .1 .1 .1 .1;
         })
         (λ r. (
-          record { statuses = r .statuses; codes = r .codes; paced = r .paced },
-          ((r .one-writer, (r .just-raised, λ t w j l. r .none-above t j w l)), (r .tasks, (r .stood-laid, r .filling-laid))),
+          (r .statuses, r .paced .slots),
+          (
+            (r .codes, r .paced .tasks),
+            (
+              (λ t w. record { raised = r .just-raised t w; alone = λ u b. r .one-writer t u w b; highest = λ j. r .none-above t j w }),
+              (r .tasks, (r .stood-laid, r .filling-laid)),
+            ),
+          ),
         ))

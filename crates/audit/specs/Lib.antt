@@ -12,3 +12,4 @@ pub mod Logs
 pub mod Walk
 pub mod Ways
 pub mod Tally
+pub mod Seven

@@ -59,10 +59,10 @@ pub ruleset loops = (all-start, all-on, all-stop, all-end, some-start, some-on, 
 -- ---- a row as it lies is the state's
 
 module _ (d : Sizes) (p : List ℕ) where
-  slot-as : (j : ℕ) (x : Slot) → x ≡ slotRead (slotPart p j) → j < d .h → slot d p j ≡ x
+  pub slot-as : (j : ℕ) (x : Slot) → x ≡ slotRead (slotPart p j) → j < d .h → slot d p j ≡ x
   slot-as j x e l = view-slot-at d p j l ∙ sym e
 
-  task-as : (t : ℕ) (k : Task) → k ≡ taskRead (taskPart p d t) → t < d .t → task d p t ≡ k
+  pub task-as : (t : ℕ) (k : Task) → k ≡ taskRead (taskPart p d t) → t < d .t → task d p t ≡ k
   task-as t k e l = view-task-at d p t l ∙ sym e
 
   -- ---- rules 2 and 5

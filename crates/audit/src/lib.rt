@@ -2,5 +2,7 @@
 mod handles;
 mod holds;
 mod reads;
+mod slots;
 mod tally;
 mod walk;
+mod writers;

@@ -1,7 +1,7 @@
 -- What the functions that lend a row or a block on owe: rules for their proofs.
 -- Rests on Places and Pool.
 use Prim.Native.Nat.{ℕ, _+_, _*_, _^_, _≤_, _<_}
-use mathlib.Core.Path.{_≡_, ap, _∙_}
+use mathlib.Core.Path.{_≡_, ap, _∙_, subst}
 use mathlib.Core.Bool.{Bool}
 use mathlib.Core.List.{List, _++_}
 use native.Mathlib.Nat.{mul-le-mul, mul-le-mul-left, mul-suc}
@@ -14,10 +14,13 @@ use Rattle.rulebook.specs.declared.Sizes.{Sizes}
 use Rattle.rulebook.specs.declared.Entry.{Entry}
 use Rattle.rulebook.specs.declared.Slot.{Slot}
 use Rattle.rulebook.specs.declared.Task.{Task}
+use Rattle.block.specs.Layout.{bumpOf}
+use Rattle.block.specs.Sound.{Laid}
+use Rattle.block.specs.Walk.{Decides}
 use Rattle.block.specs.Words.{exchangeIn, appendIn, writeIn, takeIn, fillIn}
 use Rattle.block.specs.declared.Exchanged.{Exchanged}
 use Rattle.acts.specs.declared.Touch.the-variants as touch
-use Rattle.pool.specs.Parts.{part, splice}
+use Rattle.pool.specs.Parts.{part, splice, length-part}
 use Rattle.pool.specs.Rows.{slotWords, taskWords, taskFields}
 use Rattle.pool.specs.Places.{slotStart, taskStart, blockStart, taskPart, blockPart, Spans, Small, Place}
 use Rattle.pool.specs.Pool.{putSlot, putTask, putBlock, raised, putDone, touchedIn}
@@ -92,8 +95,18 @@ module _ (d : Sizes) (p : List ℕ) (k s e : ℕ) (q : Place d k s e) where
     pub place-end : e ≤ length p
     place-end = let f = block-ends g k h in omega (arith, q .stop)
 
+    pub place-head : 1 < length (part p s e)
+    unfolding blockWords
+    place-head = let f = block-ends g k h in let l = length-part p s e (omega (arith, q .start, q .stop)) place-end in omega (arith, q .start, q .stop)
+
     pub place-scaled : length p * 4 < 2 ^ 63 → Fits w64 (s * 4)
     place-scaled l = let f = block-ends g k h in omega (arith, q .start)
+
+  pub laid-got : (r : Bool) → Decides r (Laid (d .n) (part p s e)) → Decides r (Laid (d .n) (blockPart p d k))
+  laid-got r f = subst (λ (w : List ℕ). Decides r (Laid (d .n) w)) block-got f
+
+  pub bump-got : (r : ℕ) → r ≡ bumpOf (part p s e) → r ≡ bumpOf (blockPart p d k)
+  bump-got r f = f ∙ ap bumpOf block-got
 
   put-as : (w : List ℕ) (r : Bool) (z : List ℕ × Bool) → (w, r) ≡ z → (splice p s e w, r) ≡ putDone p d k z
   unfolding putDone putBlock
@@ -124,6 +137,6 @@ module _ (d : Sizes) (p : List ℕ) (k s e : ℕ) (q : Place d k s e) where
       unfolding touchedIn
       fill-put i v f = put-as w r _ (f ∙ ap (λ (b : List ℕ). fillIn (d .n) b i v) block-got)
 
-pub ruleset lends = (slot-ends, task-ends, slot-put, task-put, spans-small, place-end, place-scaled)
+pub ruleset lends = (slot-ends, task-ends, slot-put, task-put, spans-small, place-end, place-scaled, place-head, laid-got, bump-got)
 
 pub ruleset touches = (exchange-put, append-put, write-put, take-put, fill-put)

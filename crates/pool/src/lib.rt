@@ -6,8 +6,10 @@ mod headers;
 mod opening;
 mod rows;
 
+pub use blocks::bump;
 pub use blocks::cell;
 pub use blocks::entry;
+pub use blocks::laid;
 pub use blocks::log_length;
 pub use blocks::version;
 pub use doing::apply;

@@ -1,0 +1,19 @@
+use Rattle.pool.specs.Lends.{lends}
+use Rattle.pool.specs.Parts.{part}
+use Rattle.pool.specs.Places.{blockPart}
+use borrow.Author.Needs.{needs}
+use Rattle.pool.proofs.blocks.laid.Statement.{statement}
+use Rattle.pool.proofs.blocks.laid.Tie as tie
+
+pub laid-spec : {M : Type 1} → statement M
+unfolding part blockPart
+laid-spec =
+    tie.close
+    (tie.spec
+    (λ c κs. search (needs, lends))
+    (λ c. search (needs, lends))
+    (λ c. search (needs, lends))
+    (λ c. search (needs, lends))
+    (λ c. search (needs, lends))
+    (λ c κs. search (needs, lends))
+    (λ c. search (needs, lends)))
