@@ -13,3 +13,4 @@ pub mod Walk
 pub mod Ways
 pub mod Tally
 pub mod Seven
+pub mod Order

@@ -1,8 +1,11 @@
 // The whole-store check, rule by rule.
 mod handles;
 mod holds;
+mod order;
 mod reads;
 mod slots;
 mod tally;
 mod walk;
 mod writers;
+
+pub use order::broken_before_seven;

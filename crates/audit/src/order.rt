@@ -1,0 +1,57 @@
+// The rules in their order.
+use super::handles::all_apart;
+use super::handles::all_stand;
+use super::holds::all_held_once;
+use super::tally::all_few;
+use super::walk::logs_hold;
+use pool::Header;
+use rulebook::Sizes;
+ghost use mathlib.Core.Path.{_≡_};
+ghost use Rattle.pool.specs.Header.{headerOf};
+ghost use Rattle.pool.specs.Places.{Spans};
+ghost use Rattle.audit.specs.Broken.{brokenLogs, brokenRows, brokenSix};
+
+// Rules 2 to 4: the handles and the logs of the blocks on which they stand.
+fn logs_broken(words: &[u32], d: Sizes) -> u32
+    requires { ⌜ Spans d (now words) ⌝ }
+    ensures { λ r. ⌜ r ≡ brokenLogs d (now (words .entry)) ⌝ }
+{
+    if !all_stand(words, d) {
+        return 2;
+    }
+    if !logs_hold(words, d) {
+        return 3;
+    }
+    if !all_few(words, d) {
+        return 4;
+    }
+    0
+}
+
+// Rules 5 and 6: the rows.
+fn rows_broken(words: &[u32], d: Sizes) -> u32
+    requires { ⌜ Spans d (now words) ⌝ }
+    ensures { λ r. ⌜ r ≡ brokenRows d (now (words .entry)) ⌝ }
+{
+    if !all_apart(words, d) {
+        return 5;
+    }
+    if !all_held_once(words, d) {
+        return 6;
+    }
+    0
+}
+
+// The number of the first of rules 1 to 6 that is broken, or 0.
+pub fn broken_before_seven(words: &[u32]) -> u32
+    ensures { λ r. ⌜ r ≡ brokenSix (headerOf (now (words .entry))) (now (words .entry)) ⌝ }
+{
+    let Header::Good(d) = pool::header_of(words) else {
+        return 1;
+    };
+    let r = logs_broken(words, d);
+    if r != 0 {
+        return r;
+    }
+    rows_broken(words, d)
+}
