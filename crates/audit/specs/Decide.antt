@@ -76,6 +76,13 @@ pub decide-five : {a b c d e : Bool} {P Q R S T : Type 0} → Decides a P → De
 decide-five x y z u v =
     decide-as (decide-and x (decide-and y (decide-three z u v))) (λ h. (h .0, h .1 .0, h .1 .1 .0, h .1 .1 .1, h .1 .1 .2)) (λ h. (h .0, (h .1, (h .2, h .3, h .4))))
 
+-- two tests that decide one statement are the same
+pub same : {P : Type 0} (a b : Bool) → Decides a P → Decides b P → a ≡ b
+same true true x y = refl
+same true false x y = absurd (y .no refl (x .yes refl))
+same false true x y = absurd (x .no refl (y .yes refl))
+same false false x y = refl
+
 -- ---- at every number, at some number below n
 
 module _ (p : ℕ → Bool) where

@@ -14,3 +14,4 @@ pub mod Ways
 pub mod Tally
 pub mod Seven
 pub mod Order
+pub mod Fillers

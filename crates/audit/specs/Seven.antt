@@ -26,6 +26,7 @@ use Rattle.rulebook.specs.Tests.{by-test}
 use Rattle.rules.specs.Paced.{Paced, SlotRange, TaskRange}
 use Rattle.theorems.specs.Terms.{allTo}
 use Rattle.audit.specs.Broken.{laidAt, laidIn, notAbove, slotHolds, slotSound, writerApart, writerAt}
+use Rattle.audit.specs.Decide.{same}
 use Rattle.audit.specs.DecideBlocks.{laid-decides}
 use Rattle.audit.specs.DecideTasks.{live-decides, slot-decides}
 use Rattle.audit.specs.Reads.{versionSeen}
@@ -33,12 +34,6 @@ use Rattle.audit.specs.Rules.{Lives, Rule2, shown, slot}
 use Rattle.audit.specs.Ways.{slot-as, task-as, version-here}
 use Rattle.acts.specs.declared.SlotRow.the-variants as slotrow
 use Rattle.rulebook.specs.declared.Status.the-variants as status
-
-same : {P : Type 0} (a b : Bool) → Decides a P → Decides b P → a ≡ b
-same true true x y = refl
-same true false x y = absurd (y .no refl (x .yes refl))
-same false true x y = absurd (x .no refl (y .yes refl))
-same false false x y = refl
 
 -- ---- writers
 

@@ -1,4 +1,5 @@
 // The whole-store check, rule by rule.
+mod fillers;
 mod handles;
 mod holds;
 mod order;
