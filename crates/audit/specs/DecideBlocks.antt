@@ -13,7 +13,6 @@ use Rattle.block.specs.Layout.{Sized, arena, bumpOf, isBlock, lengthOf, placeOf
 use Rattle.block.specs.Sound.{Filling, Laid, sumTo}
 use Rattle.block.specs.Walk.{Decides}
 use Rattle.block.specs.Ways.{block-sized, sized-block}
-use Rattle.pool.specs.Keeps.{none}
 use Rattle.rulebook.specs.State.{Block, logAt}
 use Rattle.rulebook.specs.Tests.{by-test}
 use Rattle.theorems.specs.Terms.{versionAt}

@@ -9,6 +9,7 @@ use lib.Dec.{eqb}
 use borrow.Author.Tests.{eq-eqb, ne-eqb, not-false, not-true}
 use Rattle.pool.specs.declared.Header.{Header}
 use Rattle.rulebook.specs.declared.Sizes.{Sizes}
+use Rattle.acts.specs.Rows.{rows}
 use Rattle.pool.specs.Header.{headerOf}
 use Rattle.pool.specs.Places.{Spans}
 use Rattle.pool.specs.Sizing.{header-spans}
@@ -85,30 +86,38 @@ pub ruleset orders = (order-two, asked-two, order-three, order-four, order-logs,
 
 -- ---- of the whole check
 
--- with rules 1 to 6 kept, rule 7 decides; else theirs is the number
-pub last-rule : (d : Sizes) (p : List ℕ) → brokenBefore d p ≡ 0 → brokenOf d p ≡ (if not (rule7 d p) then 7 else 0)
-unfolding brokenBefore brokenOf brokenLogs brokenRows
-last-rule d p e = go (rule2 d p) (rule3 d p) (rule4 d p) (rule5 d p) (rule6 d p) e
-  where
-    logs : Bool → Bool → Bool → ℕ
-    logs a b c = if not a then 2 else if not b then 3 else if not c then 4 else 0
+-- the tests of rules 2 to 7, in their order
+abbrev first6 : Bool → Bool → Bool → Bool → Bool → Bool → ℕ
+first6 a b c x y z = if not a then 2 else if not b then 3 else if not c then 4 else if not x then 5 else if not y then 6 else if not z then 7 else 0
 
-    rows : Bool → Bool → ℕ
-    rows x y = if not x then 5 else if not y then 6 else 0
+abbrev first5 : Bool → Bool → Bool → Bool → Bool → ℕ
+first5 a b c x y =
+    let logs : ℕ = if not a then 2 else if not b then 3 else if not c then 4 else 0 in
+    let rows : ℕ = if not x then 5 else if not y then 6 else 0 in
+    if eqb logs 0 then rows else logs
 
-    before : Bool → Bool → Bool → Bool → Bool → ℕ
-    before a b c x y = if eqb (logs a b c) 0 then rows x y else logs a b c
+last-of : (a b c x y z : Bool) → first5 a b c x y ≡ 0 → first6 a b c x y z ≡ first6 true true true true true z
+last-of false b c x y z e = absurd (omega arith)
+last-of true false c x y z e = absurd (omega arith)
+last-of true true false x y z e = absurd (omega arith)
+last-of true true true false y z e = absurd (omega arith)
+last-of true true true true false z e = absurd (omega arith)
+last-of true true true true true z e = refl
 
-    last : ℕ
-    last = if not (rule7 d p) then 7 else 0
+early-of : (a b c x y z : Bool) → (first5 a b c x y ≡ 0 → ⊥) → first6 a b c x y z ≡ first5 a b c x y
+early-of false b c x y z e = refl
+early-of true false c x y z e = refl
+early-of true true false x y z e = refl
+early-of true true true false y z e = refl
+early-of true true true true false z e = refl
+early-of true true true true true z e = absurd (e refl)
 
-    whole : Bool → Bool → Bool → Bool → Bool → ℕ
-    whole a b c x y = if not a then 2 else if not b then 3 else if not c then 4 else if not x then 5 else if not y then 6 else last
+module _ (d : Sizes) (p : List ℕ) where
+  -- with rules 2 to 6 kept, rule 7 decides; else theirs is the number
+  pub last-rule : brokenBefore d p ≡ 0 → brokenOf d p ≡ (if not (rule7 d p) then 7 else 0)
+  unfolding brokenBefore brokenOf brokenLogs brokenRows
+  last-rule e = last-of (rule2 d p) (rule3 d p) (rule4 d p) (rule5 d p) (rule6 d p) (rule7 d p) e
 
-    go : (a b c x y : Bool) → before a b c x y ≡ 0 → whole a b c x y ≡ last
-    go false b c x y z = absurd (omega arith)
-    go true false c x y z = absurd (omega arith)
-    go true true false x y z = absurd (omega arith)
-    go true true true false y z = absurd (omega arith)
-    go true true true true false z = absurd (omega arith)
-    go true true true true true z = refl
+  pub early-rule : (brokenBefore d p ≡ 0 → ⊥) → brokenOf d p ≡ brokenBefore d p
+  unfolding brokenBefore brokenOf brokenLogs brokenRows
+  early-rule e = early-of (rule2 d p) (rule3 d p) (rule4 d p) (rule5 d p) (rule6 d p) (rule7 d p) e

@@ -5,7 +5,6 @@ use rulebook::Sizes;
 use rulebook::Slot;
 ghost use mathlib.Core.Path.{_≡_};
 ghost use Prim.Native.Nat.{_<_};
-ghost use Rattle.rulebook.specs.State.{isLive};
 ghost use Rattle.theorems.specs.Terms.{allTo};
 ghost use Rattle.pool.specs.Places.{Spans};
 ghost use Rattle.audit.specs.Broken.{rule2At, rule2, clearOf, rule5At, rule5};
