@@ -15,3 +15,4 @@ pub mod Tally
 pub mod Seven
 pub mod Order
 pub mod Fillers
+pub mod Gets

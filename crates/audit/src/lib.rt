@@ -1,5 +1,6 @@
 // The whole-store check, rule by rule.
 mod fillers;
+mod gets;
 mod handles;
 mod holds;
 mod order;
