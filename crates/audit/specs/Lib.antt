@@ -16,3 +16,4 @@ pub mod Seven
 pub mod Order
 pub mod Fillers
 pub mod Gets
+pub mod LogsDone

@@ -31,6 +31,7 @@ use Rattle.audit.specs.Logs.{rule-readable, three-blocks}
 use Rattle.audit.specs.Reads.{lengthSeen, versionSeen}
 use Rattle.audit.specs.Rules.{Readable, Rule2, Rule3, shown}
 use Rattle.audit.specs.Ways.{version-here}
+use Rattle.block.specs.declared.Looked.the-variants as looked
 
 -- the entries of n logs are the sum of their lengths
 entries-more : (l : List (List Entry)) (x : List Entry) → entries (l ++ (x ∷ [])) ≡ entries l + length x
@@ -66,6 +67,16 @@ module _ (d : Sizes) (p : List ℕ) where
       let r = three-blocks d p two three k l (sym e ∙ not-false b q) in
       record { spans = sp; below = l; logs = rule-readable (d .n) (blockPart p d k) r }
 
+  -- how long a log of such a block is read to be
+  module _ (k : ℕ) (s : Counts k) (i : ℕ) (l : i < d .n) where
+    pub length-reads : lengthIn (d .n) (blockPart p d k) i ≡ looked.Word (lengthOf (d .n) (blockPart p d k) i)
+    unfolding lengthIn
+    length-reads =
+        rw (block-cell (d .n) (blockPart p d k) i (block-sized (s .spans) k (s .below)) l, le-leb (lengthOf (d .n) (blockPart p d k) i) (d .n) (s .logs .short i l))
+
+    pub length-is : (m : ℕ) → m ≡ lengthSeen (lengthIn (d .n) (blockPart p d k) i) → m ≡ lengthOf (d .n) (blockPart p d k) i
+    length-is m e = e ∙ ap lengthSeen length-reads
+
   module _ (k : ℕ) where
     pub counts-spans : Counts k → Spans d p
     counts-spans s = s .spans
@@ -81,18 +92,16 @@ module _ (d : Sizes) (p : List ℕ) where
       tally-below = s .on .below
 
       module _ (m : ℕ) (l : i < d .n) (e : m ≡ lengthSeen (lengthIn (d .n) (blockPart p d k) i)) where
-        length-is : m ≡ lengthOf (d .n) (blockPart p d k) i
-        unfolding lengthIn
-        length-is =
-            e ∙ rw (block-cell (d .n) (blockPart p d k) i (block-sized (s .on .spans) k (s .on .below)) l, le-leb (lengthOf (d .n) (blockPart p d k) i) (d .n) (s .on .logs .short i l))
+        is-length : m ≡ lengthOf (d .n) (blockPart p d k) i
+        is-length = length-is k (s .on) i l m e
 
         pub tally-fits : total + m < 4294967296
         tally-fits =
-            let a = s .small in let b = s .on .spans .cells in let c = s .on .logs .short i l in let q = length-is in omega arith
+            let a = s .small in let b = s .on .spans .cells in let c = s .on .logs .short i l in let q = is-length in omega arith
 
         pub tally-on : TallyAt k (total + m) (i + 1)
         tally-on =
-            let a = s .small in let b = s .on .spans .cells in let c = s .on .logs .short i l in let q = length-is in
+            let a = s .small in let b = s .on .spans .cells in let c = s .on .logs .short i l in let q = is-length in
             let next : sumTo (i + 1) (lengthOf (d .n) (blockPart p d k)) ≡ sumTo (suc i) (lengthOf (d .n) (blockPart p d k)) = ap (λ (x : ℕ). sumTo x (lengthOf (d .n) (blockPart p d k))) (add-one i) in
             let t = s .is in
             record { on = s .on; most = omega arith; is = omega arith; small = omega arith }

@@ -3,6 +3,7 @@ mod fillers;
 mod gets;
 mod handles;
 mod holds;
+mod logs_done;
 mod order;
 mod reads;
 mod slots;

@@ -13,7 +13,7 @@ ghost use Rattle.audit.specs.Broken.{rule4At, rule4};
 ghost use Rattle.audit.specs.Tally.{Counts};
 
 // The entries of block k's logs together.
-fn entries_of(words: &[u32], d: Sizes, k: u32) -> u32
+pub fn entries_of(words: &[u32], d: Sizes, k: u32) -> u32
     requires { ⌜ Counts d (now words) k ⌝ }
     ensures { λ r. ⌜ r ≡ entries (blockAt (shown d (now (words .entry))) k .logs) ⌝ }
 {
