@@ -3,7 +3,7 @@
 use Prim.Native.Nat.{_<_, _≤_, ℕ}
 use mathlib.Core.Bool.{Bool, _&&_, false, not, true}
 use mathlib.Core.List.{List}
-use mathlib.Core.Path.{_∙_, _≡_, ap, refl, sym}
+use mathlib.Core.Path.{_∙_, _≡_, ap, sym}
 use native.Mathlib.Omega.{arith}
 use lib.Dec.{eqb, leb, ltb}
 use lib.ListN.{length}
@@ -53,12 +53,6 @@ module _ (d : Sizes) (p : List ℕ) where
   log-here sp k i l r c = record { spans = sp; block = l; logs = r; cell = c }
 
   module _ (k i : ℕ) (g : Log k i) where
-    pub log-spans : Spans d p
-    log-spans = g .spans
-
-    pub log-block : k < d .b
-    log-block = g .block
-
     length-reads : lengthIn (d .n) (blockPart p d k) i ≡ looked.Word (lengthOf (d .n) (blockPart p d k) i)
     unfolding lengthIn
     length-reads =
@@ -169,4 +163,4 @@ module _ (d : Sizes) (p : List ℕ) (r : Reading) (k : Task) (l : k .hand .cell 
   unfolding getsIn logIn
   gets-probe e b f = f ∙ rw (on-cell, e)
 
-pub ruleset gets = (log-here, log-spans, log-block, log-length, older-is, candidate-far, candidate-other, candidate-last, seeks-none, seeks-far, seeks-inside, seeks-newer, seeks-open, seeks-last, gets-guess, gets-version, gets-length, gets-probe)
+pub ruleset gets = (log-here, log-length, older-is, candidate-far, candidate-other, candidate-last, seeks-none, seeks-far, seeks-inside, seeks-newer, seeks-open, seeks-last, gets-guess, gets-version, gets-length, gets-probe)

@@ -17,3 +17,4 @@ pub mod Order
 pub mod Fillers
 pub mod Gets
 pub mod LogsDone
+pub mod Facts

@@ -1,4 +1,5 @@
 // The whole-store check, rule by rule.
+mod facts;
 mod fillers;
 mod gets;
 mod handles;

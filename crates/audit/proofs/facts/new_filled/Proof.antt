@@ -1,0 +1,13 @@
+use Rattle.audit.specs.Facts.{facts}
+use borrow.Author.Needs.{needs}
+use Rattle.audit.proofs.facts.new_filled.Statement.{statement}
+use Rattle.audit.proofs.facts.new_filled.Tie as tie
+
+pub new-filled-spec : {M : Type 1} → statement M
+new-filled-spec =
+    tie.close
+    (tie.spec
+    (λ c κs. search (needs, facts))
+    (λ c. search (needs, facts))
+    (λ c κs. search (needs, facts))
+    (λ c. search (needs, facts)))
