@@ -18,3 +18,4 @@ pub mod Fillers
 pub mod Gets
 pub mod LogsDone
 pub mod Facts
+pub mod Paces

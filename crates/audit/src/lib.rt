@@ -6,6 +6,7 @@ mod handles;
 mod holds;
 mod logs_done;
 mod order;
+mod paces;
 mod reads;
 mod slots;
 mod tally;

@@ -58,18 +58,18 @@ pub record Paced (s : State) : Type 0 where
 
 -- ---- with at most 4096 cells no task has taken 1,000,000,000 steps
 
-digits-few : (n : ℕ) → n ≤ mostCells → digits n ≤ 13
+pub digits-few : (n : ℕ) → n ≤ mostCells → digits n ≤ 13
 unfolding digits digitsIn
 digits-few n h = digits-mono n mostCells h
 
 -- a cells, each of at most 17 steps
-product-few : (a d : ℕ) → a ≤ mostCells → d ≤ 17 → a * d ≤ 69632
+pub product-few : (a d : ℕ) → a ≤ mostCells → d ≤ 17 → a * d ≤ 69632
 product-few a d h q = let z : a * d ≤ 4096 * d = mul-le-mul-right d h in omega arith
 
 copy-few : (n c : ℕ) → n ≤ mostCells → c ≤ n → copySteps n c ≤ 69634
 copy-few n c m h = omega (arith, product-few c (4 + digits n) (omega arith) (omega (arith, digits-few n m)))
 
-steps-few : (n : ℕ) (g : Stage) (k : Task) → n ≤ mostCells → k .hand .cell < n → Pace n g k → k .steps < 1000000000
+pub steps-few : (n : ℕ) (g : Stage) (k : Task) → n ≤ mostCells → k .hand .cell < n → Pace n g k → k .steps < 1000000000
 steps-few n Idle k m c p = rw p (omega arith)
 steps-few n TakeNew k m c p = omega arith
 steps-few n FillNew k m c p = omega arith

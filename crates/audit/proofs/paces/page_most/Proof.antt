@@ -1,0 +1,14 @@
+use Rattle.audit.specs.Paces.{mosts}
+use borrow.Author.Needs.{needs}
+use Rattle.audit.proofs.paces.page_most.Statement.{statement}
+use Rattle.audit.proofs.paces.page_most.Tie as tie
+
+pub page-most-spec : {M : Type 1} → statement M
+page-most-spec =
+    tie.close
+    (tie.spec
+    (λ c κs. search (needs, mosts))
+    (λ c. search (needs, mosts))
+    (λ c. search (needs, mosts))
+    (λ c. search (needs, mosts))
+    (λ c. search (needs, mosts)))

@@ -1,0 +1,29 @@
+use Prim.Native.Nat.{_-_, _≤_}
+use mathlib.Core.Path.{_≡_}
+use mathlib.Core.Bool.{true}
+use Rattle.theorems.specs.Terms.{allTo}
+use Rattle.audit.specs.Broken.{taskSound}
+use Rattle.audit.specs.Ways.{loops}
+use borrow.Author.Needs.{needs}
+use Rattle.audit.proofs.paces.tasks_sound.Statement.{statement}
+use Rattle.audit.proofs.paces.tasks_sound.Tie as tie
+
+abbrev Inv-loop : tie.InvT-loop
+Inv-loop words d t₀ t = (t ≤ d .t) × (allTo (taskSound d words) t ≡ true)
+
+abbrev μ-loop : tie.MeasureT-loop
+μ-loop words d t₀ t = d .t - t
+
+pub tasks-sound-spec : {M : Type 1} → statement M
+tasks-sound-spec =
+    tie.close
+    (tie.spec
+    Inv-loop
+    μ-loop
+    (λ c. search (needs, loops))
+    (λ c κs. search (needs, loops))
+    (λ c. search (needs, loops))
+    (λ c. search (needs, loops))
+    (λ c. search (needs, loops))
+    (λ c. search (needs, loops))
+    (λ c. search (needs, loops)))
