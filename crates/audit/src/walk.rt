@@ -31,8 +31,7 @@ pub fn logs_hold(words: &[u32], d: Sizes) -> bool
                 break 'walk;
             }
             let mut least: u32 = 0;
-            let mut j: u32 = 0;
-            while j < m {
+            for j in 0..m {
                 let at = stamp_of(words, d, k, i, j);
                 if v <= at {
                     kept = false;
@@ -48,7 +47,6 @@ pub fn logs_hold(words: &[u32], d: Sizes) -> bool
                 }
                 marks[at as usize] = true;
                 least = at + 1;
-                j += 1;
             }
         }
     }
