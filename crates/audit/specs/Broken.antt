@@ -295,15 +295,12 @@ module _ (d : Sizes) (p : List ℕ) where
   unfoldable pub rule7 : Bool
   rule7 = everySlot slotSound && (everyTask taskSound && (everyTask writerAt && (everyTask factsAt && (allTo laidAt (d .b) && everyTask fillingAt))))
 
-  -- the number of the first of rules 2 to 4, of rules 5 and 6, of rules 2 to 6 that is broken, or 0
+  -- the number of the first of rules 2 to 4, of rules 5 and 6 that is broken, or 0
   unfoldable pub brokenLogs : ℕ
   brokenLogs = if not rule2 then 2 else if not rule3 then 3 else if not rule4 then 4 else 0
 
   unfoldable pub brokenRows : ℕ
   brokenRows = if not rule5 then 5 else if not rule6 then 6 else 0
-
-  unfoldable pub brokenBefore : ℕ
-  brokenBefore = if eqb brokenLogs 0 then brokenRows else brokenLogs
 
   -- the number of the first of rules 2 to 7 that is broken, or 0
   unfoldable pub brokenOf : ℕ
@@ -314,11 +311,6 @@ module _ (d : Sizes) (p : List ℕ) where
 abbrev pub brokenUnder : Header → List ℕ → ℕ
 brokenUnder header.Bad p = 1
 brokenUnder (header.Good d) p = brokenOf d p
-
--- rules 1 to 6 alone
-abbrev pub brokenSix : Header → List ℕ → ℕ
-brokenSix header.Bad p = 1
-brokenSix (header.Good d) p = brokenBefore d p
 
 unfoldable pub brokenIn : List ℕ → ℕ
 brokenIn p = brokenUnder (headerOf p) p

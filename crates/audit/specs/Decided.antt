@@ -213,14 +213,14 @@ module _ (d : Sizes) (p : List ℕ) where
     every-slot : (P : Slot → Type 0) → P (freed 0) → ((j : ℕ) → j < d .h → P (slot d p j)) → (j : ℕ) → P (slot d p j)
     every-slot P i h j = by-test (ltb j (d .h)) (λ e. h j (ltb-true j (d .h) e)) (λ e. subst P (sym (slot-beyond j (ltb-false j (d .h) e))) i)
 
-    slots-decide : Decides (everySlot d p (slotSound d p)) (((j : ℕ) → j < d .h → getD (slotPart p j) 1 0 < 3) × ((j : ℕ) → SlotRange (slot d p j)))
+    pub slots-decide : Decides (everySlot d p (slotSound d p)) (((j : ℕ) → j < d .h → getD (slotPart p j) 1 0 < 3) × ((j : ℕ) → SlotRange (slot d p j)))
     unfolding slotSound
     slots-decide =
         decide-as (decide-all (d .h) (λ j _. decide-and (decide-lt (getD (slotPart p j) 1 0) 3) (slot-decides (slot d p j))))
         (λ h. ((λ j l. h j l .0), every-slot SlotRange free-ranged (λ j l. h j l .1)))
         (λ r j l. (r .0 j l, r .1 j))
 
-    rows-decide : Decides (everyTask d p (taskSound d p)) (((t : ℕ) → t < d .t → codeOf (taskRead (taskPart p d t) .stage) ≡ getD (taskPart p d t) 0 0) × ((t : ℕ) → TaskRange d (task d p t)))
+    pub rows-decide : Decides (everyTask d p (taskSound d p)) (((t : ℕ) → t < d .t → codeOf (taskRead (taskPart p d t) .stage) ≡ getD (taskPart p d t) 0 0) × ((t : ℕ) → TaskRange d (task d p t)))
     unfolding taskSound
     rows-decide =
         decide-as (decide-all (d .t) (λ t _. decide-and (decide-eq (codeOf (taskRead (taskPart p d t) .stage)) (getD (taskPart p d t) 0 0)) (range-decides d (task d p t))))
@@ -244,7 +244,7 @@ module _ (d : Sizes) (p : List ℕ) where
         (λ h. record { raised = h .0; alone = h .1; highest = h .2 })
         (λ r. (r .raised, r .alone, r .highest))) writes refl
 
-    facts-decide : Decides (everyTask d p (factsAt d p)) ((t : ℕ) → TaskRule (shown d p) (task d p t .stage) (task d p t))
+    pub facts-decide : Decides (everyTask d p (factsAt d p)) ((t : ℕ) → TaskRule (shown d p) (task d p t .stage) (task d p t))
     unfolding factsAt
     facts-decide =
         decide-as (decide-all (d .t) (λ t _. task-decides (shown d p) (task d p t .stage) (task d p t)))

@@ -13,9 +13,10 @@ pub mod Walk
 pub mod Ways
 pub mod Tally
 pub mod Seven
-pub mod Order
 pub mod Fillers
 pub mod Gets
 pub mod LogsDone
 pub mod Facts
 pub mod Paces
+pub mod Parts
+pub mod Order

@@ -5,8 +5,7 @@ use mathlib.Core.Bool.{Bool, false, not, true}
 use mathlib.Core.List.{List}
 use mathlib.Core.Path.{_∙_, _≡_, ap, refl, sym}
 use native.Mathlib.Omega.{arith}
-use lib.Dec.{eqb}
-use borrow.Author.Tests.{eq-eqb, ne-eqb, not-false, not-true}
+use borrow.Author.Tests.{not-false, not-true}
 use Rattle.pool.specs.declared.Header.{Header}
 use Rattle.rulebook.specs.declared.Sizes.{Sizes}
 use Rattle.acts.specs.Rows.{rows}
@@ -14,9 +13,9 @@ use Rattle.pool.specs.Header.{headerOf}
 use Rattle.pool.specs.Places.{Spans}
 use Rattle.pool.specs.Sizing.{header-spans}
 use Rattle.rulebook.specs.Sizes.{if_then_else_}
-use Rattle.audit.specs.Broken.{brokenBefore, brokenLogs, brokenOf, brokenRows, brokenSix, rule2, rule3, rule4, rule5, rule6, rule7}
-use Rattle.audit.specs.Decided.{decides-2, decides-3}
-use Rattle.audit.specs.Rules.{Rule2, Rule3}
+use Rattle.audit.specs.Broken.{brokenIn, brokenLogs, brokenOf, brokenRows, brokenUnder, rule2, rule3, rule4, rule5, rule6, rule7}
+use Rattle.audit.specs.Decided.{decides-2, decides-3, decides-6}
+use Rattle.audit.specs.Rules.{Rule2, Rule3, Rule6}
 use Rattle.pool.specs.declared.Header.the-variants as header
 
 module _ (d : Sizes) (p : List ℕ) (a : Bool) (e : a ≡ rule2 d p) where
@@ -60,64 +59,99 @@ module _ (d : Sizes) (p : List ℕ) (a : Bool) (e : a ≡ rule5 d p) where
     unfolding brokenRows
     order-rows o = rw (← e, not-false a q, ← f, not-false b o)
 
-module _ (p : List ℕ) (h : Header) (m : h ≡ headerOf p) where
-  pub before-header : h ≡ header.Bad → 1 ≡ brokenSix (headerOf p) p
-  before-header q = ap (λ (x : Header). brokenSix x p) (sym q ∙ m)
-
-  module _ (d : Sizes) (q : h ≡ header.Good d) (r : ℕ) (e : r ≡ brokenLogs d p) where
-    pub before-logs : (r ≡ 0 → ⊥) → r ≡ brokenSix (headerOf p) p
-    unfolding brokenBefore
-    before-logs o = e ∙ inner ∙ ap (λ (x : Header). brokenSix x p) (sym q ∙ m)
-      where
-        inner : brokenLogs d p ≡ (if eqb (brokenLogs d p) 0 then brokenRows d p else brokenLogs d p)
-        inner = rw (ne-eqb (brokenLogs d p) 0 (λ z. o (e ∙ z)))
-
-    pub before-rows : r ≡ 0 → (s : ℕ) → s ≡ brokenRows d p → s ≡ brokenSix (headerOf p) p
-    unfolding brokenBefore
-    before-rows o s f = f ∙ inner ∙ ap (λ (x : Header). brokenSix x p) (sym q ∙ m)
-      where
-        inner : brokenRows d p ≡ (if eqb (brokenLogs d p) 0 then brokenRows d p else brokenLogs d p)
-        inner = rw (eq-eqb (brokenLogs d p) 0 (sym e ∙ o))
-
-  pub before-spans : (d : Sizes) → h ≡ header.Good d → Spans d p
-  before-spans d q = header-spans p d (sym m ∙ q)
-
-pub ruleset orders = (order-two, asked-two, order-three, order-four, order-logs, asked-three, order-five, order-six, order-rows, before-header, before-logs, before-rows, before-spans)
-
 -- ---- of the whole check
 
--- the tests of rules 2 to 7, in their order
+-- the tests of rules 2 to 7, in their order; of rules 2 to 4; of rules 5 and 6
 abbrev first6 : Bool → Bool → Bool → Bool → Bool → Bool → ℕ
 first6 a b c x y z = if not a then 2 else if not b then 3 else if not c then 4 else if not x then 5 else if not y then 6 else if not z then 7 else 0
 
-abbrev first5 : Bool → Bool → Bool → Bool → Bool → ℕ
-first5 a b c x y =
-    let logs : ℕ = if not a then 2 else if not b then 3 else if not c then 4 else 0 in
-    let rows : ℕ = if not x then 5 else if not y then 6 else 0 in
-    if eqb logs 0 then rows else logs
+abbrev first3 : Bool → Bool → Bool → ℕ
+first3 a b c = if not a then 2 else if not b then 3 else if not c then 4 else 0
 
-last-of : (a b c x y z : Bool) → first5 a b c x y ≡ 0 → first6 a b c x y z ≡ first6 true true true true true z
-last-of false b c x y z e = absurd (omega arith)
-last-of true false c x y z e = absurd (omega arith)
-last-of true true false x y z e = absurd (omega arith)
-last-of true true true false y z e = absurd (omega arith)
-last-of true true true true false z e = absurd (omega arith)
-last-of true true true true true z e = refl
+abbrev first2 : Bool → Bool → ℕ
+first2 x y = if not x then 5 else if not y then 6 else 0
 
-early-of : (a b c x y z : Bool) → (first5 a b c x y ≡ 0 → ⊥) → first6 a b c x y z ≡ first5 a b c x y
-early-of false b c x y z e = refl
-early-of true false c x y z e = refl
-early-of true true false x y z e = refl
-early-of true true true false y z e = refl
-early-of true true true true false z e = refl
-early-of true true true true true z e = absurd (e refl)
+first-logs : (a b c x y z : Bool) → (first3 a b c ≡ 0 → ⊥) → first3 a b c ≡ first6 a b c x y z
+first-logs false b c x y z o = refl
+first-logs true false c x y z o = refl
+first-logs true true false x y z o = refl
+first-logs true true true x y z o = absurd (o refl)
 
-module _ (d : Sizes) (p : List ℕ) where
-  -- with rules 2 to 6 kept, rule 7 decides; else theirs is the number
-  pub last-rule : brokenBefore d p ≡ 0 → brokenOf d p ≡ (if not (rule7 d p) then 7 else 0)
-  unfolding brokenBefore brokenOf brokenLogs brokenRows
-  last-rule e = last-of (rule2 d p) (rule3 d p) (rule4 d p) (rule5 d p) (rule6 d p) (rule7 d p) e
+logs-kept : (a b c : Bool) → first3 a b c ≡ 0 → (a ≡ true) × (b ≡ true) × (c ≡ true)
+logs-kept false b c e = absurd (omega arith)
+logs-kept true false c e = absurd (omega arith)
+logs-kept true true false e = absurd (omega arith)
+logs-kept true true true e = (refl, refl, refl)
 
-  pub early-rule : (brokenBefore d p ≡ 0 → ⊥) → brokenOf d p ≡ brokenBefore d p
-  unfolding brokenBefore brokenOf brokenLogs brokenRows
-  early-rule e = early-of (rule2 d p) (rule3 d p) (rule4 d p) (rule5 d p) (rule6 d p) (rule7 d p) e
+first-rows : (a b c x y z : Bool) → first3 a b c ≡ 0 → (first2 x y ≡ 0 → ⊥) → first2 x y ≡ first6 a b c x y z
+first-rows false b c x y z e o = absurd (omega arith)
+first-rows true false c x y z e o = absurd (omega arith)
+first-rows true true false x y z e o = absurd (omega arith)
+first-rows true true true false y z e o = refl
+first-rows true true true true false z e o = refl
+first-rows true true true true true z e o = absurd (o refl)
+
+first-last : (a b c x y z : Bool) → first3 a b c ≡ 0 → first2 x y ≡ 0 → (if not z then 7 else 0) ≡ first6 a b c x y z
+first-last false b c x y z e o = absurd (omega arith)
+first-last true false c x y z e o = absurd (omega arith)
+first-last true true false x y z e o = absurd (omega arith)
+first-last true true true false y z e o = absurd (omega arith)
+first-last true true true true false z e o = absurd (omega arith)
+first-last true true true true true z e o = refl
+
+rows-kept : (x y : Bool) → first2 x y ≡ 0 → (x ≡ true) × (y ≡ true)
+rows-kept false y e = absurd (omega arith)
+rows-kept true false e = absurd (omega arith)
+rows-kept true true e = (refl, refl)
+
+module _ (p : List ℕ) (h : Header) (m : h ≡ headerOf p) where
+  pub check-header : h ≡ header.Bad → 1 ≡ brokenIn p
+  unfolding brokenIn
+  check-header q = ap (λ (x : Header). brokenUnder x p) (sym q ∙ m)
+
+  module _ (d : Sizes) (q : h ≡ header.Good d) where
+    pub check-spans : Spans d p
+    check-spans = header-spans p d (sym m ∙ q)
+
+    of-rest : brokenOf d p ≡ brokenIn p
+    unfolding brokenIn
+    of-rest = ap (λ (x : Header). brokenUnder x p) (sym q ∙ m)
+
+    module _ (r : ℕ) (e : r ≡ brokenLogs d p) where
+      pub check-logs : (r ≡ 0 → ⊥) → r ≡ brokenIn p
+      unfolding brokenLogs brokenOf
+      check-logs o = e ∙ first-logs (rule2 d p) (rule3 d p) (rule4 d p) (rule5 d p) (rule6 d p) (rule7 d p) (λ z. o (e ∙ z)) ∙ of-rest
+
+      module _ (o : r ≡ 0) (s : ℕ) (f : s ≡ brokenRows d p) where
+        pub check-rows : (s ≡ 0 → ⊥) → s ≡ brokenIn p
+        unfolding brokenLogs brokenRows brokenOf
+        check-rows i = f ∙ first-rows (rule2 d p) (rule3 d p) (rule4 d p) (rule5 d p) (rule6 d p) (rule7 d p) (sym e ∙ o) (λ z. i (f ∙ z)) ∙ of-rest
+
+        module _ (i : s ≡ 0) (b : Bool) (g : b ≡ rule7 d p) where
+          last : (if not (rule7 d p) then 7 else 0) ≡ brokenOf d p
+          unfolding brokenLogs brokenRows brokenOf
+          last = first-last (rule2 d p) (rule3 d p) (rule4 d p) (rule5 d p) (rule6 d p) (rule7 d p) (sym e ∙ o) (sym f ∙ i)
+
+          pub check-seven : not b ≡ true → 7 ≡ brokenIn p
+          check-seven q = ap (λ (x : Bool). if x then 7 else 0) (sym q ∙ ap not g) ∙ last ∙ of-rest
+
+          pub check-whole : not b ≡ false → 0 ≡ brokenIn p
+          check-whole q = ap (λ (x : Bool). if x then 7 else 0) (sym q ∙ ap not g) ∙ last ∙ of-rest
+
+-- what rule 7's function asks for
+module _ (d : Sizes) (p : List ℕ) (r : ℕ) (e : r ≡ brokenLogs d p) (o : r ≡ 0) where
+  pub check-two : Rule2 d p
+  unfolding brokenLogs
+  check-two = decides-2 d p .yes (logs-kept (rule2 d p) (rule3 d p) (rule4 d p) (sym e ∙ o) .0)
+
+  pub check-three : Rule3 d p
+  unfolding brokenLogs
+  check-three = decides-3 d p .yes (logs-kept (rule2 d p) (rule3 d p) (rule4 d p) (sym e ∙ o) .1)
+
+pub check-six : (d : Sizes) (p : List ℕ) (s : ℕ) → s ≡ brokenRows d p → s ≡ 0 → Rule6 d p
+unfolding brokenRows
+check-six d p s f i = decides-6 d p .yes (rows-kept (rule5 d p) (rule6 d p) (sym f ∙ i) .1)
+
+pub ruleset orders = (order-two, asked-two, order-three, order-four, order-logs, asked-three, order-five, order-six, order-rows)
+
+pub ruleset checks = (check-header, check-spans, check-logs, check-rows, check-seven, check-whole, check-two, check-three, check-six)

@@ -8,9 +8,10 @@ mod logs_done;
 mod order;
 mod paces;
 mod reads;
+mod seven;
 mod slots;
 mod tally;
 mod walk;
 mod writers;
 
-pub use order::broken_before_seven;
+pub use order::check;

@@ -2,14 +2,14 @@
 use super::handles::all_apart;
 use super::handles::all_stand;
 use super::holds::all_held_once;
+use super::seven::rule_seven;
 use super::tally::all_few;
 use super::walk::logs_hold;
 use pool::Header;
 use rulebook::Sizes;
 ghost use mathlib.Core.Path.{_≡_};
-ghost use Rattle.pool.specs.Header.{headerOf};
 ghost use Rattle.pool.specs.Places.{Spans};
-ghost use Rattle.audit.specs.Broken.{brokenLogs, brokenRows, brokenSix};
+ghost use Rattle.audit.specs.Broken.{brokenIn, brokenLogs, brokenRows};
 
 // Rules 2 to 4: the handles and the logs of the blocks on which they stand.
 fn logs_broken(words: &[u32], d: Sizes) -> u32
@@ -42,9 +42,9 @@ fn rows_broken(words: &[u32], d: Sizes) -> u32
     0
 }
 
-// The number of the first of rules 1 to 6 that is broken, or 0.
-pub fn broken_before_seven(words: &[u32]) -> u32
-    ensures { λ r. ⌜ r ≡ brokenSix (headerOf (now (words .entry))) (now (words .entry)) ⌝ }
+// The number of the first of document 01's rules that the words break, or 0.
+pub fn check(words: &[u32]) -> u32
+    ensures { λ r. ⌜ r ≡ brokenIn (now (words .entry)) ⌝ }
 {
     let Header::Good(d) = pool::header_of(words) else {
         return 1;
@@ -53,5 +53,12 @@ pub fn broken_before_seven(words: &[u32]) -> u32
     if r != 0 {
         return r;
     }
-    rows_broken(words, d)
+    let s = rows_broken(words, d);
+    if s != 0 {
+        return s;
+    }
+    if !rule_seven(words, d) {
+        return 7;
+    }
+    0
 }

@@ -1,0 +1,20 @@
+use Rattle.audit.specs.Order.{checks}
+use borrow.Author.Needs.{needs}
+use Rattle.audit.proofs.order.check.Statement.{statement}
+use Rattle.audit.proofs.order.check.Tie as tie
+
+pub check-spec : {M : Type 1} → statement M
+check-spec =
+    tie.close
+    (tie.spec
+    (λ c κs. search (needs, checks))
+    (λ c. search (needs, checks))
+    (λ c. search (needs, checks))
+    (λ c. search (needs, checks))
+    (λ c κs. search (needs, checks))
+    (λ c. search (needs, checks))
+    (λ c κs. search (needs, checks))
+    (λ c. search (needs, checks))
+    (λ c κs. search (needs, checks))
+    (λ c. search (needs, checks))
+    (λ c. search (needs, checks)))
