@@ -40,7 +40,7 @@ module _ (d : Sizes) (p : List ℕ) where
   stampAt k = stampOf (d .n) (wordsOf k)
 
   -- the versions that were met before entry j of log i are those marked
-  abbrev pub Met : ℕ → List Bool → ℕ → ℕ → Type 0
+  abbrev pub Met : ℕ → List ℕ → ℕ → ℕ → Type 0
   Met k marks i j = Walked (lengthAt k) (stampAt k) mostVersions marks i j
 
   -- the blocks before k keep the rule
@@ -59,7 +59,7 @@ module _ (d : Sizes) (p : List ℕ) where
     pub small : v ≤ mostVersions
 
   -- the logs before log i keep the rule
-  pub record LogsAt (k v : ℕ) (marks : List Bool) (i : ℕ) (kept : Bool) : Type 0 where
+  pub record LogsAt (k v : ℕ) (marks : List ℕ) (i : ℕ) (kept : Bool) : Type 0 where
     pub yes : kept ≡ true
     pub on : On k v
     pub most : i ≤ d .n
@@ -67,7 +67,7 @@ module _ (d : Sizes) (p : List ℕ) where
     pub met : Met k marks i 0
 
   -- the entries before entry j of log i, which has m, keep the rule; least is above the version of the last of them
-  pub record EntriesAt (k v i m : ℕ) (marks : List Bool) (least j : ℕ) (kept : Bool) : Type 0 where
+  pub record EntriesAt (k v i m : ℕ) (marks : List ℕ) (least j : ℕ) (kept : Bool) : Type 0 where
     pub yes : kept ≡ true
     pub on : On k v
     pub cell : i < d .n
@@ -114,7 +114,7 @@ module _ (d : Sizes) (p : List ℕ) where
   version-is sp k l v e = e ∙ rw (sized-block (d .n) (wordsOf k) (block-sized sp k l))
 
   pub logs-start : (k v : ℕ) (kept b : Bool) → BlocksAt k kept → Spans d p → Rule2 d p → k < d .b → b ≡ stood (shown d p) k → not b ≡ false
-      → v ≡ versionSeen (versionIn (d .n) (wordsOf k)) → LogsAt k v (replicate mostVersions false) 0 kept
+      → v ≡ versionSeen (versionIn (d .n) (wordsOf k)) → LogsAt k v (replicate mostVersions 1) 0 kept
   logs-start k v kept b s sp two l e q f =
       let st = sym e ∙ not-false b q in
       let is = version-is sp k l v f in
@@ -125,11 +125,11 @@ module _ (d : Sizes) (p : List ℕ) where
         most = omega arith;
         logs = λ x m. absurd (omega arith);
         met =
-            walk-start (lengthAt k) (stampAt k) mostVersions (replicate mostVersions false) (length-replicate {A = Bool} mostVersions false)
-            (λ x m. getD-replicate {A = Bool} mostVersions x false false m);
+            walk-start (lengthAt k) (stampAt k) mostVersions (replicate mostVersions 1) (length-replicate {A = ℕ} mostVersions 1)
+            (λ x m z. omega (arith, getD-replicate {A = ℕ} mostVersions x 1 0 m));
       }
 
-  module _ (k v : ℕ) (marks : List Bool) (i : ℕ) (kept : Bool) (s : LogsAt k v marks i kept) where
+  module _ (k v : ℕ) (marks : List ℕ) (i : ℕ) (kept : Bool) (s : LogsAt k v marks i kept) where
     pub logs-end : BlocksAt k kept → d .n ≤ i → BlocksAt (k + 1) kept
     logs-end z l =
         record {
@@ -187,7 +187,7 @@ module _ (d : Sizes) (p : List ℕ) where
 
   -- ---- a log
 
-  module _ (k v i m : ℕ) (marks : List Bool) (least j : ℕ) (kept : Bool) (s : EntriesAt k v i m marks least j kept) where
+  module _ (k v i m : ℕ) (marks : List ℕ) (least j : ℕ) (kept : Bool) (s : EntriesAt k v i m marks least j kept) where
     pub entries-end : m ≤ j → LogsAt k v marks (i + 1) kept
     entries-end l =
         record {
@@ -255,7 +255,7 @@ module _ (d : Sizes) (p : List ℕ) where
             (λ f. let g : 0 < j = omega (arith, eqb-false j 0 f) in let z = s .last g in let y = said h .rise g in let x = stamp-is inside in omega arith))
 
         module _ (o : least ≤ at) where
-          pub broken-twice : getD marks at false ≡ true → false ≡ rule3 d p
+          pub broken-twice : getD marks at 0 ≡ 0 → false ≡ rule3 d p
           broken-twice f =
               three-not (λ h.
               let x = s .met .marked at stamp-small f in
@@ -270,7 +270,7 @@ module _ (d : Sizes) (p : List ℕ) where
               omega (arith, stamp-is inside))
               (x .2 .1))
 
-          pub entries-step : getD marks at false ≡ false → EntriesAt k v i m (set marks at true) (at + 1) (j + 1) kept
+          pub entries-step : (getD marks at 0 ≡ 0 → ⊥) → EntriesAt k v i m (set marks at 0) (at + 1) (j + 1) kept
           entries-step f =
               record {
                 yes = s .yes;
@@ -287,9 +287,9 @@ module _ (d : Sizes) (p : List ℕ) where
                 first = λ z. absurd (omega arith);
                 last = λ z. (let g : j + 1 - 1 ≡ j = omega arith in rw g (ap (λ (u : ℕ). u + 1) (stamp-is inside)));
                 met =
-                    subst (λ (u : ℕ). Met k (set marks u true) i (j + 1)) (sym (stamp-is inside))
+                    subst (λ (u : ℕ). Met k (set marks u 0) i (j + 1)) (sym (stamp-is inside))
                     (walk-step (lengthAt k) (stampAt k) (s .met) in-log (subst (λ (u : ℕ). u < mostVersions) (stamp-is inside) stamp-small)
-                    (subst (λ (u : ℕ). getD marks u false ≡ false) (stamp-is inside) f));
+                    (subst (λ (u : ℕ). getD marks u 0 ≡ 0 → ⊥) (stamp-is inside) f));
               }
             where
               here : EntryRule (d .n) (wordsOf k) i j

@@ -9,7 +9,7 @@ ghost use Rattle.pool.specs.Places.{Spans};
 ghost use Rattle.audit.specs.Rules.{Rule2};
 ghost use Rattle.audit.specs.Broken.{rule3};
 
-// A mark for each version that an entry may have: V is at most N + 1.
+// A mark for each version that an entry may have: V is at most N + 1. It is 0 once met: an array of zeros would need memset.
 const VERSIONS: usize = 4097;
 
 // Left at the first entry that breaks the rule.
@@ -23,7 +23,7 @@ pub fn logs_hold(words: &[u32], d: Sizes) -> bool
             continue;
         }
         let v = version_of(words, d, k);
-        let mut marks = [false; VERSIONS];
+        let mut marks = [1u32; VERSIONS];
         for i in 0..d.n {
             let m = length_of(words, d, k, i);
             if d.n < m {
@@ -41,11 +41,11 @@ pub fn logs_hold(words: &[u32], d: Sizes) -> bool
                     kept = false;
                     break 'walk;
                 }
-                if marks[at as usize] {
+                if marks[at as usize] == 0 {
                     kept = false;
                     break 'walk;
                 }
-                marks[at as usize] = true;
+                marks[at as usize] = 0;
                 least = at + 1;
             }
         }

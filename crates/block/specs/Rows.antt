@@ -23,10 +23,10 @@ use Rattle.block.specs.Walk.{Decides, countOf, Marks, RowIn, RowOut, Row
 
 -- ---- a row
 
-broken : {n : ℕ} {w : List ℕ} {i : ℕ} {marks : List Bool} → (Sound n (viewOf n w) → ⊥) → RowOut Broken n w i marks
+broken : {n : ℕ} {w : List ℕ} {i : ℕ} {marks : List ℕ} → (Sound n (viewOf n w) → ⊥) → RowOut Broken n w i marks
 broken h = record { done = λ k q. (let z : _≡_ {A = ℕ} 0 1 = cc in absurd (omega arith)); no = λ _. h }
 
-module _ {n : ℕ} {w : List ℕ} {limit i : ℕ} {marks : List Bool} (r : RowIn n w limit i marks) where
+module _ {n : ℕ} {w : List ℕ} {limit i : ℕ} {marks : List ℕ} (r : RowIn n w limit i marks) where
   module _ (x : ℕ) (e : x ≡ lengthIx n i) where
     pub row-long : n < getD w x 0 → RowOut Broken n w i marks
     row-long h = broken (λ s. let a = s .short i (r .cell) in let l : n < lengthOf n w i = rw e at h in omega arith)
@@ -44,7 +44,7 @@ module _ {n : ℕ} {w : List ℕ} {limit i : ℕ} {marks : List Bool} (r : RowIn
       below = λ t l. absurd (omega arith);
     }
 
-module _ {n : ℕ} {w : List ℕ} {limit i m all : ℕ} {marks : List Bool} {j : ℕ} (r : RowAt n w limit i m all marks j) where
+module _ {n : ℕ} {w : List ℕ} {limit i m all : ℕ} {marks : List ℕ} {j : ℕ} (r : RowAt n w limit i m all marks j) where
   counted : all ≡ countOf n w i
   counted = r .space ∙ ap spaceOf (r .is)
 
@@ -65,9 +65,9 @@ module _ {n : ℕ} {w : List ℕ} {limit i m all : ℕ} {marks : List Bool} {j :
         inside : placeOf n w i j < mostPlaces
         inside = let f = r .on .fits in omega arith
 
-        pub row-twice : getD marks p false ≡ true → RowOut Broken n w i marks
+        pub row-twice : getD marks p 0 ≡ 0 → RowOut Broken n w i marks
         row-twice z =
-            let m = r .walked .marked (placeOf n w i j) inside (sym (ap (λ (x : ℕ). getD marks x false) e) ∙ z) in
+            let m = r .walked .marked (placeOf n w i j) inside (sym (ap (λ (x : ℕ). getD marks x 0) e) ∙ z) in
             broken (λ s.
             ⊎-elim
             (λ (x : m .0 < i).
@@ -80,7 +80,7 @@ module _ {n : ℕ} {w : List ℕ} {limit i m all : ℕ} {marks : List Bool} {j :
             omega (arith, o .1, x .1))
             (m .2 .1))
 
-        pub row-step : getD marks p false ≡ false → RowAt n w limit i m all (set marks p true) (j + 1)
+        pub row-step : (getD marks p 0 ≡ 0 → ⊥) → RowAt n w limit i m all (set marks p 0) (j + 1)
         row-step z = record {
           on = r .on;
           cell = r .cell;
@@ -90,8 +90,8 @@ module _ {n : ℕ} {w : List ℕ} {limit i m all : ℕ} {marks : List Bool} {j :
           few = r .few;
           most = omega arith;
           walked =
-              subst (λ (x : ℕ). Marks n w (set marks x true) i (j + 1)) (sym e)
-              (walk-step (countOf n w) (placeOf n w) (r .walked) mine inside (sym (ap (λ (x : ℕ). getD marks x false) e) ∙ z));
+              subst (λ (x : ℕ). Marks n w (set marks x 0) i (j + 1)) (sym e)
+              (walk-step (countOf n w) (placeOf n w) (r .walked) mine inside (λ u. z (ap (λ (x : ℕ). getD marks x 0) e ∙ u)));
           below = below-more (λ (t : ℕ). placeOf n w i t < bumpOf w) j (r .below) (let b = r .on .bump in omega arith);
         }
 
@@ -133,25 +133,25 @@ module _ (r : Bool) (n : ℕ) (w : List ℕ) (e : r ≡ isBlock n w) where
       pub rows-past : a < bump → Decides false (Laid n w)
       rows-past l = undone (λ L. let f = L .sound .fits in omega arith)
 
-      pub rows-start : bump ≤ a → a ≤ mostPlaces → RowsAt n w bump (replicate mostPlaces false) 0 0
+      pub rows-start : bump ≤ a → a ≤ mostPlaces → RowsAt n w bump (replicate mostPlaces 1) 0 0
       rows-start l f = record {
         on = record { sized = whole; bump = is; room = omega arith; fits = omega arith };
         most = omega arith;
         walked =
-            walk-start (countOf n w) (placeOf n w) mostPlaces (replicate mostPlaces false) (length-replicate {A = Bool} mostPlaces false)
-            (λ p q. getD-replicate {A = Bool} mostPlaces p false false q);
+            walk-start (countOf n w) (placeOf n w) mostPlaces (replicate mostPlaces 1) (length-replicate {A = ℕ} mostPlaces 1)
+            (λ p q z. omega (arith, getD-replicate {A = ℕ} mostPlaces p 1 0 q));
         short = λ k q. absurd (omega arith);
         below = λ k q. absurd (omega arith);
         tally = refl;
         small = omega arith;
       }
 
-module _ {n : ℕ} {w : List ℕ} {bump : ℕ} {marks : List Bool} {taken i : ℕ} (a : RowsAt n w bump marks taken i) where
+module _ {n : ℕ} {w : List ℕ} {bump : ℕ} {marks : List ℕ} {taken i : ℕ} (a : RowsAt n w bump marks taken i) where
   module _ (h : i < n) where
     pub rows-in : RowIn n w bump i marks
     rows-in = record { on = a .on; cell = h; walked = a .walked }
 
-    module _ (marks′ : List Bool) (r : Row) (o : RowOut r n w i marks′) where
+    module _ (marks′ : List ℕ) (r : Row) (o : RowOut r n w i marks′) where
       pub rows-broken : r ≡ Broken → Decides false (Laid n w)
       rows-broken q = undone (λ L. o .no q (L .sound))
 

@@ -19,7 +19,7 @@ pub record Decides (r : Bool) (P : Type 0) : Type 0 where
 abbrev pub countOf : ℕ → List ℕ → ℕ → ℕ
 countOf n w k = spaceOf (lengthOf n w k)
 
-abbrev pub Marks : ℕ → List ℕ → List Bool → ℕ → ℕ → Type 0
+abbrev pub Marks : ℕ → List ℕ → List ℕ → ℕ → ℕ → Type 0
 Marks n w marks i j = Walked (countOf n w) (placeOf n w) mostPlaces marks i j
 
 -- the block that is walked, and its bump, which is no more than there are marks
@@ -31,27 +31,27 @@ pub record Walks (n : ℕ) (w : List ℕ) (limit : ℕ) : Type 0 where
 
 -- ---- what `mark_row` asks and gives
 
-pub record RowIn (n : ℕ) (w : List ℕ) (limit i : ℕ) (marks : List Bool) : Type 0 where
+pub record RowIn (n : ℕ) (w : List ℕ) (limit i : ℕ) (marks : List ℕ) : Type 0 where
   pub on : Walks n w limit
   pub cell : i < n
   pub walked : Marks n w marks i 0
 
 -- row i has k places, all inside and none marked before
-pub record RowDone (k n : ℕ) (w : List ℕ) (i : ℕ) (marks : List Bool) : Type 0 where
+pub record RowDone (k n : ℕ) (w : List ℕ) (i : ℕ) (marks : List ℕ) : Type 0 where
   pub all : k ≡ countOf n w i
   pub few : k < mostPlaces
   pub short : lengthOf n w i ≤ n
   pub below : (j : ℕ) → j < countOf n w i → placeOf n w i j < bumpOf w
   pub walked : Marks n w marks (i + 1) 0
 
-pub record RowOut (r : Row) (n : ℕ) (w : List ℕ) (i : ℕ) (marks : List Bool) : Type 0 where
+pub record RowOut (r : Row) (n : ℕ) (w : List ℕ) (i : ℕ) (marks : List ℕ) : Type 0 where
   pub done : (k : ℕ) → r ≡ Marked k → RowDone k n w i marks
   pub no : r ≡ Broken → Sound n (viewOf n w) → ⊥
 
 -- ---- the invariants of the two loops
 
 -- in row i, at place j
-pub record RowAt (n : ℕ) (w : List ℕ) (limit i m all : ℕ) (marks : List Bool) (j : ℕ) : Type 0 where
+pub record RowAt (n : ℕ) (w : List ℕ) (limit i m all : ℕ) (marks : List ℕ) (j : ℕ) : Type 0 where
   pub on : Walks n w limit
   pub cell : i < n
   pub is : m ≡ lengthOf n w i
@@ -63,7 +63,7 @@ pub record RowAt (n : ℕ) (w : List ℕ) (limit i m all : ℕ) (marks : List Bo
   pub below : (t : ℕ) → t < j → placeOf n w i t < bumpOf w
 
 -- before row i, with the places of the rows before it counted
-pub record RowsAt (n : ℕ) (w : List ℕ) (bump : ℕ) (marks : List Bool) (taken i : ℕ) : Type 0 where
+pub record RowsAt (n : ℕ) (w : List ℕ) (bump : ℕ) (marks : List ℕ) (taken i : ℕ) : Type 0 where
   pub on : Walks n w bump
   pub most : i ≤ n
   pub walked : Marks n w marks i 0

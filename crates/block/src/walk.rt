@@ -17,7 +17,7 @@ pub enum Row {
 }
 
 // Marks the places of cell i's log.
-fn mark_row(b: &[u32], n: u32, limit: usize, i: u32, marks: &mut [bool]) -> Row
+fn mark_row(b: &[u32], n: u32, limit: usize, i: u32, marks: &mut [u32]) -> Row
     requires { ⌜ RowIn n (now b) limit i (now marks) ⌝ }
     ensures { λ r. ⌜ RowOut r n (now (b .entry)) i (now (marks .exit)) ⌝ }
 {
@@ -33,10 +33,10 @@ fn mark_row(b: &[u32], n: u32, limit: usize, i: u32, marks: &mut [bool]) -> Row
         if limit <= p {
             return Row::Broken;
         }
-        if marks[p] {
+        if marks[p] == 0 {
             return Row::Broken;
         }
-        marks[p] = true;
+        marks[p] = 0;
         j += 1;
     }
     Row::Marked(all)
@@ -53,7 +53,8 @@ pub fn laid(b: &[u32], n: u32) -> bool
     if places(n) < bump {
         return false;
     }
-    let mut marks = [false; PLACES];
+    // A mark is 0 once its place is taken: an array of zeros would need memset.
+    let mut marks = [1u32; PLACES];
     let mut taken: u32 = 0;
     let mut i: u32 = 0;
     while i < n {

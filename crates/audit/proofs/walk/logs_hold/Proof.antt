@@ -60,4 +60,6 @@ logs-hold-spec =
     (λ c. search (needs, walks))
     (λ c. search (needs, walks))
     (λ c. search (needs, walks))
+    (λ c. search (needs, walks))
+    (λ c. search (needs, walks))
     (λ c. search (needs, walks)))
