@@ -1,112 +1,13 @@
 /* The rule book written by hand in C, for speed, with no proof: the third baseline of the benchmark, and a second opinion for the tests.
  * It trusts the pool's content: refusal 1 is tested, refusal 2 is never given, and a damaged pool may do anything. */
 #include "plain.h"
+
+#include "layout.h"
 #include "winchclover.h"
 
 #include <string.h>
 
-enum { MARK = 0x00494B56, FORM = 1, HEAD_WORDS = 16, WIDTH = 13, LAST_SERIAL = 16777215 };
-
-enum { FREE, RESERVED, LIVE };
-
-/* 12 times the operation, and the stage */
-enum {
-    IDLE = 0,
-    NEW_TAKE = 13,
-    NEW_FILL = 14,
-    GET_GUESS = 27,
-    GET_VERSION,
-    GET_LENGTH,
-    GET_PROBE,
-    COPY_TAKE = 37,
-    COPY_FILL,
-    COPY_GUESS,
-    COPY_VERSION,
-    COPY_LENGTH,
-    COPY_PROBE,
-    SET_EXCHANGE,
-    SET_READ,
-    SET_APPEND,
-    SET_WRITE,
-    COPY_PUT,
-    PAGE_GUESS = 51,
-    PAGE_VERSION,
-    PAGE_LENGTH,
-    PAGE_PROBE
-};
-
-struct head {
-    uint32_t mark, n, h, t, words, form, spare[10];
-};
-
-struct handle {
-    uint32_t serial, status, block, number;
-};
-
-struct task {
-    uint32_t code, slot, block, number, cell, value, until, fresh, target;
-    uint32_t hand, guess, lo, hi, found, candidate, version; /* the get in hand */
-    uint32_t steps, spare[15];
-};
-
-struct entry {
-    uint32_t version, old;
-};
-
-/* ---- where things lie */
-
-static const struct head *head_of(const uint32_t *pool) { return (const struct head *)pool; }
-
-static uint32_t cells_of(const uint32_t *pool) { return head_of(pool)->n; }
-
-static struct handle *handles_of(const uint32_t *pool) { return (struct handle *)(pool + HEAD_WORDS); }
-
-static struct task *tasks_of(const uint32_t *pool) { return (struct task *)(pool + HEAD_WORDS + 4 * (size_t)head_of(pool)->h); }
-
-static uint32_t *block_at(const uint32_t *pool, uint32_t k) {
-    const struct head *d = head_of(pool);
-    return (uint32_t *)pool + WINCH_CONTROL_WORDS(d->h, d->t) + k * WINCH_BLOCK_WORDS(d->n);
-}
-
-static uint32_t *cell_at(uint32_t *block, uint32_t i) { return block + 16 + i; }
-
-static uint32_t *length_at(uint32_t *block, uint32_t n, uint32_t i) { return block + 16 + n + i; }
-
-/* chunk c of a log has the entries j with 2^c <= j + 1 < 2^(c + 1) */
-static uint32_t chunk_of(uint32_t j) { return 31 - (uint32_t)__builtin_clz(j + 1); }
-
-static uint32_t *base_at(uint32_t *block, uint32_t n, uint32_t i, uint32_t c) { return block + 16 + 2 * n + WIDTH * i + c; }
-
-static struct entry *place_at(uint32_t *block, uint32_t n, uint32_t place) { return (struct entry *)(block + 16 + 15 * n) + place; }
-
-static struct entry *entry_at(uint32_t *block, uint32_t n, uint32_t i, uint32_t j) {
-    uint32_t c = chunk_of(j);
-    return place_at(block, n, *base_at(block, n, i, c) + (j + 1 - (1u << c)));
-}
-
 /* ---- what every call begins with */
-
-static int within(uint32_t x, uint32_t most) { return x - 1 < most; }
-
-static int fits(size_t words, uint32_t n, uint32_t h, uint32_t t) {
-    return within(n, WINCH_MOST_CELLS) && within(h, WINCH_MOST_HANDLES) && within(t, WINCH_MOST_TASKS) &&
-           words >= WINCH_POOL_WORDS(n, h, t, 1);
-}
-
-static int describes(const uint32_t *pool, size_t words) {
-    const struct head *d = head_of(pool);
-    return words >= HEAD_WORDS && d->mark == MARK && d->form == FORM && d->words == words && fits(words, d->n, d->h, d->t);
-}
-
-static uint32_t blocks_in(size_t words, uint32_t n, uint32_t h, uint32_t t) {
-    size_t b = (words - WINCH_CONTROL_WORDS(h, t)) / WINCH_BLOCK_WORDS(n);
-    return b < WINCH_MOST_BLOCKS ? (uint32_t)b : WINCH_MOST_BLOCKS;
-}
-
-static uint32_t blocks_of(const uint32_t *pool) {
-    const struct head *d = head_of(pool);
-    return blocks_in(d->words, d->n, d->h, d->t);
-}
 
 static void clear(uint32_t *answer) { memset(answer, 0, WINCH_ANSWER_WORDS * sizeof *answer); }
 
@@ -133,12 +34,6 @@ static uint32_t free_slot(const uint32_t *pool) {
         if (x[j].status == FREE && x[j].serial < LAST_SERIAL) break;
     return j;
 }
-
-static int names(uint32_t code) { return code >= GET_GUESS; }
-
-static int reserves(uint32_t code) { return code == NEW_TAKE || code == NEW_FILL || (code >= COPY_TAKE && code <= COPY_PUT); }
-
-static int fills(uint32_t code) { return code == NEW_FILL || (code >= COPY_FILL && code <= COPY_PROBE) || code == COPY_PUT; }
 
 static int in_use(const uint32_t *pool, uint32_t slot) {
     const struct task *k = tasks_of(pool);
@@ -539,122 +434,5 @@ uint32_t winch_report(const uint32_t *pool, size_t words, uint32_t *answer, size
     mark_stood(pool, &m);
     for (uint32_t j = 0; j < head_of(pool)->h; j++) answer[0] += x[j].status == LIVE;
     for (uint32_t b = 0; b < WINCH_MOST_BLOCKS; b++) answer[1] += m.at[b];
-    return WINCH_ACCEPTED;
-}
-
-/* ---- the check: rules 1 to 6, and of rule 7 what it says of a log's places */
-
-static int rule_2(const uint32_t *pool) {
-    const struct handle *x = handles_of(pool);
-    uint32_t n = cells_of(pool), b = blocks_of(pool);
-    for (uint32_t j = 0; j < head_of(pool)->h; j++) {
-        if (x[j].status != LIVE) continue;
-        if (x[j].block >= b || x[j].number > n) return 0;
-        uint32_t v = block_at(pool, x[j].block)[0];
-        if (x[j].number > v || v > n + 1) return 0;
-    }
-    return 1;
-}
-
-static int in_arena(uint32_t *block, uint32_t n, uint32_t i, uint32_t j) {
-    uint32_t c = chunk_of(j);
-    return (uint64_t)*base_at(block, n, i, c) + (j + 1 - (1u << c)) < 2 * n;
-}
-
-static int log_sound(uint32_t *block, uint32_t n, uint32_t i, uint8_t *seen) {
-    uint32_t m = *length_at(block, n, i), last = 0;
-    if (m > n) return 0;
-    for (uint32_t j = 0; j < m; j++) {
-        if (!in_arena(block, n, i, j)) return 0;
-        uint32_t v = entry_at(block, n, i, j)->version;
-        if (v >= block[0] || (j > 0 && v <= last) || seen[v]) return 0;
-        seen[v] = 1;
-        last = v;
-    }
-    return 1;
-}
-
-static int rule_3(uint32_t *block, uint32_t n) {
-    uint8_t seen[WINCH_MOST_CELLS + 1] = {0};
-    for (uint32_t i = 0; i < n; i++)
-        if (!log_sound(block, n, i, seen)) return 0;
-    return 1;
-}
-
-static int rule_4(uint32_t *block, uint32_t n) {
-    uint32_t entries = 0;
-    for (uint32_t i = 0; i < n; i++) entries += *length_at(block, n, i);
-    return entries <= block[0] && entries <= n;
-}
-
-static int rule_5(const uint32_t *pool) {
-    const struct handle *x = handles_of(pool);
-    for (uint32_t j = 0; j < head_of(pool)->h; j++)
-        for (uint32_t i = 0; i < j; i++)
-            if (x[i].status == LIVE && x[j].status == LIVE && x[i].block == x[j].block && x[i].number == x[j].number) return 0;
-    return 1;
-}
-
-static int task_sound(const uint32_t *pool, const struct task *k, uint32_t *owners, uint32_t *fillers) {
-    uint32_t h = head_of(pool)->h;
-    const struct handle *x = handles_of(pool);
-    if (names(k->code) && (k->slot >= h || x[k->slot].status != LIVE)) return 0;
-    if (reserves(k->code) && (k->fresh >= h || x[k->fresh].status != RESERVED || owners[k->fresh]++)) return 0;
-    if (fills(k->code) && (k->target >= blocks_of(pool) || stood(pool, k->target) || fillers[k->target]++)) return 0;
-    return 1;
-}
-
-static int rule_6(const uint32_t *pool) {
-    uint32_t owners[WINCH_MOST_HANDLES] = {0}, fillers[WINCH_MOST_BLOCKS] = {0};
-    for (uint32_t t = 0; t < head_of(pool)->t; t++)
-        if (!task_sound(pool, tasks_of(pool) + t, owners, fillers)) return 0;
-    for (uint32_t j = 0; j < head_of(pool)->h; j++)
-        if (handles_of(pool)[j].status == RESERVED && owners[j] != 1) return 0;
-    return 1;
-}
-
-/* every place that is held lies below the bump, none is held twice, and the bump is their number */
-static int rule_7(uint32_t *block, uint32_t n) {
-    uint8_t seen[2 * WINCH_MOST_CELLS] = {0};
-    uint32_t held = 0;
-    if (block[1] > 2 * n) return 0;
-    for (uint32_t i = 0; i < n; i++) {
-        uint32_t m = *length_at(block, n, i), places = m ? (2u << chunk_of(m - 1)) - 1 : 0;
-        for (uint32_t j = 0; j < places; j++) {
-            uint32_t c = chunk_of(j);
-            uint64_t place = (uint64_t)*base_at(block, n, i, c) + (j + 1 - (1u << c));
-            if (place >= block[1] || seen[place]) return 0;
-            seen[place] = 1;
-        }
-        held += places;
-    }
-    return held == block[1];
-}
-
-static int every_block(const uint32_t *pool, int (*rule)(uint32_t *, uint32_t)) {
-    struct marks m;
-    mark_stood(pool, &m);
-    for (uint32_t b = 0; b < blocks_of(pool); b++)
-        if (m.at[b] && !rule(block_at(pool, b), cells_of(pool))) return 0;
-    return 1;
-}
-
-static uint32_t first_broken(const uint32_t *pool, size_t words) {
-    if (!describes(pool, words)) return 1;
-    if (!rule_2(pool)) return 2;
-    if (!every_block(pool, rule_3)) return 3;
-    if (!every_block(pool, rule_4)) return 4;
-    if (!rule_5(pool)) return 5;
-    if (!rule_6(pool)) return 6;
-    return every_block(pool, rule_7) ? 0 : 7;
-}
-
-uint32_t plain_check(const uint32_t *pool, size_t words, uint32_t *answer, size_t answer_words);
-
-/* the tests' own check: rules 1 to 6, and of rule 7 the places of the logs */
-uint32_t plain_check(const uint32_t *pool, size_t words, uint32_t *answer, size_t answer_words) {
-    if (answer_words < WINCH_ANSWER_WORDS) return WINCH_SHORT_ANSWER;
-    clear(answer);
-    answer[0] = first_broken(pool, words);
     return WINCH_ACCEPTED;
 }

@@ -16,6 +16,7 @@
 #define winch_look_entry plain_look_entry
 #define winch_look_task plain_look_task
 #define winch_report plain_report
+#define winch_check plain_check
 
 /* a test may leave out what it can ask of the proved archive alone */
 #define WINCH_IS_PLAIN 1

@@ -241,5 +241,7 @@ int main(void) {
     print_skipped(&r);
     must(winch_report(pool, POOL_WORDS, answer, WINCH_ANSWER_WORDS));
     printf("\nThe store now has %u live versions on %u blocks.\n", (unsigned)answer[0], (unsigned)answer[1]);
-    return whole ? 0 : 1;
+    must(winch_check(pool, POOL_WORDS, answer, WINCH_ANSWER_WORDS));
+    printf("The whole-store check says %u, which is %s.\n", (unsigned)answer[0], answer[0] ? "no" : "yes");
+    return whole && answer[0] == 0 ? 0 : 1;
 }

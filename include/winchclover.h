@@ -156,6 +156,10 @@ uint32_t winch_look_task(const uint32_t *pool, size_t pool_words, uint32_t task,
 /* Answer: live handles; the different blocks on which they stand. Refusals: 15, 1, 2. */
 uint32_t winch_report(const uint32_t *pool, size_t pool_words, uint32_t *answer, size_t answer_words);
 
+/* The whole-store check, of any content of the pool. Answer: 0 where every rule holds, else the number of the first that is broken (1 to 7; docs/LAYOUT.md
+ * has rule 7). Refusal: 15 alone. */
+uint32_t winch_check(const uint32_t *pool, size_t pool_words, uint32_t *answer, size_t answer_words);
+
 #ifdef __cplusplus
 }
 #endif

@@ -1,7 +1,7 @@
 #!/usr/bin/env bash
 # Compiles C sources and links them with the archive: cc.sh OUT ARCHIVE SOURCE..
 # The archive is x86-64. On x86-64 this is the machine's cc; elsewhere the kit's clang and linker. With 'plain' as the archive: this machine's cc and
-# bench/plain.c, the same functions written by hand in C.
+# bench/plain.c and bench/plain_check.c, the same functions written by hand in C.
 set -euo pipefail
 cd "$(dirname "$0")/.."
 out=$1 archive=$2
@@ -10,7 +10,7 @@ flags=(-std=c99 -Wall -Wextra -Wpedantic -Werror -O2 -Iinclude -Ibench -Itests)
 mkdir -p "$(dirname "$out")"
 
 if [ "$archive" = plain ]; then
-    exec cc "${flags[@]}" -include bench/plain.h -o "$out" "$@" bench/plain.c
+    exec cc "${flags[@]}" -include bench/plain.h -o "$out" "$@" bench/plain.c bench/plain_check.c
 fi
 source scripts/kit.sh
 if [ "$machine" = x86_64 ]; then

@@ -1,12 +1,12 @@
 #!/usr/bin/env bash
-# Every test in C. test.sh: against the proved archive; test.sh plain: against bench/plain.c. The last line is 'N passed, M failed', the sum over all.
+# Every test in C. test.sh: against the proved archive; test.sh plain: against the C by hand in bench/. The last line is 'N passed, M failed', the sum over all.
 set -euo pipefail
 cd "$(dirname "$0")/.."
 scripts/setup.sh build
-archive=plain out=target/c/plain beside=
+archive=plain out=target/c/plain
 if [ "${1:-}" != plain ]; then
     archive=$(scripts/archive.sh)
-    out=target/c beside=bench/plain.c
+    out=target/c
 fi
 mkdir -p "$out"
 passed=0 failed=0
@@ -27,7 +27,7 @@ one() {
 program() {
     local name=$1 status=0 last
     shift
-    scripts/cc.sh "$out/$name" "$archive" "tests/$name.c" tests/harness.c tests/calls.c ${beside-}
+    scripts/cc.sh "$out/$name" "$archive" "tests/$name.c" tests/harness.c tests/calls.c ${beside:-}
     scripts/run.sh "$archive" "$out/$name" "$@" > "$out/$name.log" 2>&1 || status=$?
     last=$(tail -n 1 "$out/$name.log")
     sed '$d' "$out/$name.log"
@@ -55,7 +55,7 @@ if [ "$archive" = plain ]; then
 else
     one 'the archive exports the functions of the header and no other name' scripts/symbols.sh "$archive"
     program damage
-    beside='tests/plain_calls.c bench/plain.c' program both
+    beside='tests/plain_calls.c bench/plain.c bench/plain_check.c' program both
 fi
 one 'the example prints what it should' example_as_told
 echo "$passed passed, $failed failed"

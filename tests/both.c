@@ -1,15 +1,15 @@
-/* The proved archive beside bench/plain.c: the same random calls on two pools. Every refusal, every answer word and every word of the pools is
- * the same after every call. */
+/* The proved archive beside the C by hand in bench/: the same random calls on two pools. Every refusal, every answer word and every word of the
+ * pools is the same after every call. Of damaged copies both checks name the same rule. */
 #include "harness.h"
 
 enum { ROOM = 18, KEPT_HANDLES = 24 };
 
 uint32_t make_plain_call(struct call k, uint32_t *pool, size_t words, uint32_t *answer, size_t room);
 
-static uint32_t n, h, t, b, *pool, *plain, handles[KEPT_HANDLES];
+static uint32_t n, h, t, b, *pool, *plain, *damaged, handles[KEPT_HANDLES];
 static uint32_t answer[ROOM], plain_answer[ROOM];
 static size_t words;
-static uint64_t calls, met[16];
+static uint64_t calls, met[16], broken[8];
 
 static uint32_t ask(struct call k) {
     memset(answer, 77, sizeof answer);
@@ -22,6 +22,22 @@ static uint32_t ask(struct call k) {
     EXPECT(memcmp(pool, plain, words * sizeof *pool) == 0);
     if (case_failed()) printf("  in %s(%u, %u, %u, %u): %u and %u\n", kind_name(k.kind), k.a, k.b, k.c, k.d, refusal, second);
     return refusal;
+}
+
+/* a copy of the pool with up to three words overwritten; what the archive's check says of it, the one by hand says too */
+static void compare_checks(void) {
+    struct call k = {CHECK, 0, 0, 0, 0};
+    memcpy(damaged, pool, words * sizeof *pool);
+    damage(damaged, (struct sizes){n, h, t, b}, 3);
+    uint32_t refusal = make_call(k, damaged, words, answer, ROOM), second = make_plain_call(k, damaged, words, plain_answer, ROOM);
+    EXPECT(refusal == 0 && second == 0 && answer[0] < 8);
+    if (!EXPECT(answer[0] == plain_answer[0])) {
+        printf("  rule %u, and by hand %u; words overwritten:", answer[0], plain_answer[0]);
+        for (size_t i = 0; i < words; i++)
+            if (damaged[i] != pool[i]) printf(" %u from %u to %u", (unsigned)i, pool[i], damaged[i]);
+        printf("\n");
+    }
+    broken[answer[0] % 8]++;
 }
 
 /* ---- arguments that are mostly good */
@@ -90,6 +106,7 @@ static void open_store(void) {
     words = WINCH_POOL_WORDS(n, h, t, b) + below(20);
     pool = malloc(words * sizeof *pool);
     plain = malloc(words * sizeof *plain);
+    damaged = malloc(words * sizeof *damaged);
     for (size_t i = 0; i < words; i++) pool[i] = plain[i] = draw();
     for (int j = 0; j < KEPT_HANDLES; j++) handles[j] = 256;
     EXPECT(ask(k) == 0);
@@ -106,9 +123,13 @@ static void run(uint32_t number, uint32_t count) {
     snprintf(name, sizeof name, "run %u: N = %u, H = %u, T = %u, B = %u", number, n, h, t, b);
     begin_case(name);
     open_store();
-    while (count-- && !case_failed()) some_calls();
+    while (count-- && !case_failed()) {
+        some_calls();
+        if (count % 3 == 0) compare_checks();
+    }
     free(pool);
     free(plain);
+    free(damaged);
     end_case();
 }
 
@@ -117,6 +138,8 @@ int main(void) {
     printf("%lu calls; refused", (unsigned long)calls);
     for (int r = 1; r < 16; r++)
         if (met[r]) printf(" %d: %lu", r, (unsigned long)met[r]);
+    printf("\ndamaged copies; the check says");
+    for (int r = 0; r < 8; r++) printf(" %d: %lu", r, (unsigned long)broken[r]);
     printf("\n");
     return summary();
 }

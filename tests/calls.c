@@ -16,7 +16,7 @@ uint32_t make_call(struct call k, uint32_t *pool, size_t words, uint32_t *answer
     case LOOK_ENTRY: return winch_look_entry(pool, words, k.a, k.b, k.c, answer, room);
     case LOOK_TASK: return winch_look_task(pool, words, k.a, answer, room);
     case REPORT: return winch_report(pool, words, answer, room);
-    case CHECK: return plain_check(pool, words, answer, room);
+    case CHECK: return winch_check(pool, words, answer, room);
     default: abort();
     }
 }

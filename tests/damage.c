@@ -9,12 +9,12 @@
 
 enum { MOST_WORDS = 8192, LEFT = 77, KEPT_HANDLES = 32 };
 
-struct sizes {
+struct plan {
     uint32_t n, h, t;
     size_t words; /* whole pages, so that the guards touch the pool on both sides */
 };
 
-static struct sizes d;
+static struct plan d;
 static uint32_t blocks;
 static uint32_t *pool, was[MOST_WORDS], *answer;
 static size_t room, page_words;
@@ -67,6 +67,11 @@ static int rest_left(void) {
     return 1;
 }
 
+static uint32_t broken_rule(void) {
+    uint32_t a[WINCH_ANSWER_WORDS];
+    return winch_check(was, d.words, a, WINCH_ANSWER_WORDS) ? UINT32_MAX : a[0];
+}
+
 static int known(uint32_t refusal) { return refusal <= 12 && refusal != 3; }
 
 static uint32_t ask(struct call k) {
@@ -80,6 +85,7 @@ static uint32_t ask(struct call k) {
     if ((refusal && refusal != 10) || k.kind >= LOOK_VERSION) EXPECT(memcmp(was, pool, d.words * sizeof *pool) == 0);
     if (k.kind != OPEN && k.kind != CHECK) EXPECT((refusal == 1) == !describes());
     if (k.kind == CHECK) EXPECT(refusal == 0 && answer[0] <= 7 && (answer[0] == 1) == !describes());
+    if (refusal == 2) EXPECT(broken_rule() != 0);
     if (case_failed()) printf("  in %s(%u, %u, %u, %u): %u\n", kind_name(k.kind), k.a, k.b, k.c, k.d, refusal);
     return refusal;
 }
@@ -127,38 +133,9 @@ static void open_store(void) {
     blocks = answer[0];
 }
 
-/* ---- damage */
-
-static uint32_t control_words(void) { return 16 + 4 * d.h + 32 * d.t; }
-
-static size_t some_place(void) {
-    uint32_t control = control_words(), used = control + blocks * (20 * d.n + 16);
-    switch (below(8)) {
-    case 0: return one_in(4) ? below(6) : below(16);
-    case 1:
-    case 2: return 16 + below(4 * d.h);
-    case 3:
-    case 4: return 16 + 4 * d.h + 32 * below(d.t) + below(17);
-    case 5: return control + below(blocks) * (20 * d.n + 16) + below(2);
-    default: return control + below(used - control);
-    }
-}
-
-static uint32_t some_word(uint32_t old) {
-    uint32_t edges[] = {0, 1, 2, 3, d.n - 1, d.n, d.n + 1, d.n + 2, 2 * d.n, d.h, d.t, blocks, blocks - 1, UINT32_MAX, 0x80000000u};
-    switch (below(4)) {
-    case 0: return draw();
-    case 1: return below(64);
-    case 2: return old ^ (1u << below(32));
-    default: return edges[below(sizeof edges / sizeof edges[0])];
-    }
-}
-
-static void damage(uint32_t most) {
-    for (uint32_t count = most ? 1 + below(most) : 0; count; count--) {
-        size_t at = some_place();
-        pool[at] = some_word(pool[at]);
-    }
+static void passes(void) {
+    struct call k = {CHECK, 0, 0, 0, 0};
+    EXPECT(ask(k) == 0 && answer[0] == 0);
 }
 
 /* every call at least once, steps more often */
@@ -168,20 +145,21 @@ static void every_call(void) {
     for (int i = 0; i < 20; i++) make((enum kind)below(KINDS));
 }
 
-static void run(const struct sizes *sizes, uint32_t number, uint32_t most) {
+static void run(const struct plan *plan, uint32_t number, uint32_t most) {
     static char name[80];
     uint32_t *page = guarded(page_words);
-    snprintf(name, sizeof name, "run %u: N = %u, H = %u, T = %u, %u words", number, sizes->n, sizes->h, sizes->t, (unsigned)sizes->words);
+    snprintf(name, sizeof name, "run %u: N = %u, H = %u, T = %u, %u words", number, plan->n, plan->h, plan->t, (unsigned)plan->words);
     plant(number);
     begin_case(name);
-    d = *sizes;
+    d = *plan;
     pool = guarded(d.words);
     place_answer(page);
     for (int round = 0; round < 8 && !case_failed(); round++) {
         open_store();
         work(40 + (int)below(300));
+        passes();
         for (int i = 0; i < 4 && !case_failed(); i++) {
-            damage(most);
+            damage(pool, (struct sizes){d.n, d.h, d.t, blocks}, most);
             every_call();
         }
     }
@@ -194,12 +172,13 @@ static void run(const struct sizes *sizes, uint32_t number, uint32_t most) {
 
 static void too_long(size_t words, uint32_t *page, uint32_t *at) {
     uint32_t control[WINCH_CONTROL_WORDS(4, 2)];
-    d = (struct sizes){2, 4, 2, 208};
+    d = (struct plan){2, 4, 2, 208};
     blocks = 2;
     EXPECT(winch_open(at, d.words, d.n, d.h, d.t, page, WINCH_ANSWER_WORDS) == 0);
     memcpy(control, at, sizeof control);
     EXPECT(winch_open(at, words, d.n, d.h, d.t, page, WINCH_ANSWER_WORDS) == 3);
     for (int kind = START_NEW; kind < CHECK; kind++) EXPECT(make_call(some_call((enum kind)kind), at, words, page, WINCH_ANSWER_WORDS) == 1);
+    EXPECT(winch_check(at, words, page, WINCH_ANSWER_WORDS) == 0 && page[0] == 1);
     EXPECT(memcmp(control, at, sizeof control) == 0);
 }
 
@@ -222,10 +201,10 @@ static void print_met(void) {
 }
 
 int main(int count, char **arguments) {
-    static const struct sizes sizes[] = {{2, 4, 2, 1024}, {16, 20, 4, 2048}, {5, 256, 16, 4096}, {100, 8, 3, 8192}, {1, 1, 1, 1024}, {33, 9, 5, 4096}};
+    static const struct plan plans[] = {{2, 4, 2, 1024}, {16, 20, 4, 2048}, {5, 256, 16, 4096}, {100, 8, 3, 8192}, {1, 1, 1, 1024}, {33, 9, 5, 4096}};
     uint32_t most = count > 1 ? (uint32_t)strtoul(arguments[1], NULL, 10) : 8;
     page_words = (size_t)sysconf(_SC_PAGESIZE) / sizeof(uint32_t);
-    for (uint32_t number = 0; number < 180; number++) run(&sizes[number % 6], number, most);
+    for (uint32_t number = 0; number < 180; number++) run(&plans[number % 6], number, most);
     above_the_most();
     print_met();
     return summary();

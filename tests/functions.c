@@ -505,6 +505,33 @@ static void logs_and_rows(void) {
     end_case();
 }
 
+static void layout_rules(void) {
+    begin_case("the check: rule 7");
+    one_table();
+    broken(SLOT_0, 0, 7);                      /* a live slot that has carried no handle */
+    broken(SLOT_0, 16777216, 7);
+    broken(SLOT_1 + 1, 3, 7);                  /* no status */
+    broken(SLOT_1 + 2, 1, 7);                  /* a free slot with a block */
+    broken(TASK_0, 60, 7);                     /* no code */
+    broken(TASK_0 + 5, 1, 7);                  /* an idle task with a value */
+    quiet(CALL(START_SET, 0, 256, 0, 9));
+    broken(TASK_0 + 4, 2, 7);                  /* no such cell */
+    broken(TASK_0 + 16, 1, 7);                 /* a step too many */
+    broken(SLOT_1, 16777215, 7);               /* the slot that it has reserved is spent */
+    steps(0, 1);
+    broken(BLOCK_0, 2, 7);                     /* V is not one above its number */
+    quiet(CALL(START_GET, 1, 256, 0));
+    steps(1, 2);
+    ANSWERS(CALL(CHECK), 0);
+    broken(TASK_1 + 13, 1, 7);                 /* a candidate before the search */
+    steps(0, 2);
+    steps(1, 1);
+    ANSWERS(CALL(CHECK), 0);
+    broken(TASK_1 + 12, 2, 7);                 /* hi beyond the log */
+    broken(TASK_1 + 11, 1, 7);                 /* lo is not below hi */
+    end_case();
+}
+
 /* ---- refusal 2: the proved archive alone tests what it reads */
 
 #ifndef WINCH_IS_PLAIN
@@ -512,6 +539,7 @@ static void damaged(uint32_t at, uint32_t to, struct call k) {
     uint32_t kept = pool[at];
     pool[at] = to;
     refuses(k, 2);
+    EXPECT(ask_with(CALL(CHECK), WORDS, ROOM) == 0 && answer[0] != 0);
     pool[at] = kept;
 }
 
@@ -572,6 +600,7 @@ int main(void) {
     looking();
     first_rules();
     logs_and_rows();
+    layout_rules();
 #ifndef WINCH_IS_PLAIN
     damaged_rows();
     damaged_logs();

@@ -56,3 +56,35 @@ uint32_t draw(void) {
 uint32_t below(uint32_t most) { return draw() % most; }
 
 int one_in(uint32_t n) { return below(n) == 0; }
+
+/* ---- damage */
+
+static size_t some_place(struct sizes d) {
+    uint32_t control = 16 + 4 * d.h + 32 * d.t, block = 20 * d.n + 16;
+    switch (below(8)) {
+    case 0: return one_in(4) ? below(6) : below(16);
+    case 1:
+    case 2: return 16 + below(4 * d.h);
+    case 3:
+    case 4: return 16 + 4 * d.h + 32 * below(d.t) + below(17);
+    case 5: return control + below(d.b) * block + below(2);
+    default: return control + below(d.b * block);
+    }
+}
+
+static uint32_t some_word(struct sizes d, uint32_t old) {
+    uint32_t edges[] = {0, 1, 2, 3, d.n - 1, d.n, d.n + 1, d.n + 2, 2 * d.n, d.h, d.t, d.b, d.b - 1, UINT32_MAX, 0x80000000u};
+    switch (below(4)) {
+    case 0: return draw();
+    case 1: return below(64);
+    case 2: return old ^ (1u << below(32));
+    default: return edges[below(sizeof edges / sizeof edges[0])];
+    }
+}
+
+void damage(uint32_t *pool, struct sizes d, uint32_t most) {
+    for (uint32_t count = most ? 1 + below(most) : 0; count; count--) {
+        size_t at = some_place(d);
+        pool[at] = some_word(d, pool[at]);
+    }
+}

@@ -22,9 +22,6 @@ int summary(void);
 
 /* ---- calls */
 
-/* the whole-store check by hand, of bench/plain.c */
-uint32_t plain_check(const uint32_t *pool, size_t words, uint32_t *answer, size_t answer_words);
-
 enum kind {
     OPEN,
     START_NEW,
@@ -58,5 +55,14 @@ void plant(uint64_t seed);
 uint32_t draw(void);
 uint32_t below(uint32_t most);
 int one_in(uint32_t n);
+
+/* ---- damage */
+
+struct sizes {
+    uint32_t n, h, t, b;
+};
+
+/* overwrites up to so many words of a store, mostly where they matter */
+void damage(uint32_t *pool, struct sizes d, uint32_t most);
 
 #endif

@@ -3,10 +3,12 @@
 use Prim.Native.Nat.{ℕ}
 use mathlib.Core.List.{List}
 use mathlib.Core.Path.{_≡_}
+use Rattle.audit.specs.Broken.{brokenIn}
 use Rattle.pool.specs.Calls.{lookCellIn, lookEntryIn, lookLogIn, lookTaskIn, lookVersionIn, releaseIn, reportIn, startGetIn, startNewIn, startPageIn, startSetIn, stepIn}
 use Rattle.pool.specs.Pool.{openIn}
 use Rattle.store.specs.Determined.{both}
 use Rattle.winchclover.specs.Answered.{answeredIn, shownIn}
+use Rattle.rulebook.specs.declared.Reply.the-variants as reply
 
 -- pool and answer slice, and the number
 abbrev Call : (List ℕ × List ℕ) × ℕ → Type 0
@@ -55,3 +57,6 @@ module _ (p a : List ℕ) where
 
   pub report-determined : Look (shownIn reportIn p a)
   report-determined = both (shownIn reportIn p a)
+
+  pub check-determined : Look (shownIn (λ p. reply.Shown (brokenIn p)) p a)
+  check-determined = both (shownIn (λ p. reply.Shown (brokenIn p)) p a)

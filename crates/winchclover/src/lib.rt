@@ -2,9 +2,12 @@
 mod answers;
 
 use answers::tell;
+use rulebook::Reply;
 ghost use mathlib.Core.Path.{_≡_};
+ghost use Rattle.audit.specs.Broken.{brokenIn};
 ghost use Rattle.pool.specs.Pool.{openIn};
 ghost use Rattle.pool.specs.Calls.{startNewIn, startGetIn, startSetIn, startPageIn, stepIn, releaseIn, lookVersionIn, lookCellIn, lookLogIn, lookEntryIn, lookTaskIn, reportIn};
+ghost use Rattle.rulebook.specs.declared.Reply.the-variants as reply;
 ghost use Rattle.winchclover.specs.Answered.{answeredIn, shownIn};
 
 // The numbers of an answer: eight at most.
@@ -200,4 +203,15 @@ pub extern "C" fn winch_report(pool: &[u32], answer: &mut [u32]) -> u32
     }
     let r = store::report(pool);
     tell(answer, r)
+}
+
+#[no_mangle]
+pub extern "C" fn winch_check(pool: &[u32], answer: &mut [u32]) -> u32
+    ensures { λ n. ⌜ (now (answer .exit), n) ≡ shownIn (λ p. reply.Shown (brokenIn p)) (now (pool .entry)) (now (answer .entry)) ⌝ }
+{
+    if answer.len() < ANSWER_WORDS {
+        return 15;
+    }
+    let r = audit::check(pool);
+    tell(answer, Reply::Shown(r))
 }
