@@ -1,3 +1,4 @@
 pub mod Said
 pub mod Promises
+pub mod Promised
 pub mod Proofs

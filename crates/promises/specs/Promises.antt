@@ -5,6 +5,7 @@ use mathlib.Core.Bool.{false, true}
 use mathlib.Core.List.{List, _∷_}
 use mathlib.Core.Path.{_≡_}
 use lib.ListN.{getD, length, replicate, take}
+use Rattle.audit.specs.Check.{FirstBroken}
 use Rattle.bridge.specs.Asked.{Asked, Open, Step, callOf}
 use Rattle.bridge.specs.Sound.{Sound}
 use Rattle.pool.specs.declared.Header.the-variants as header
@@ -19,7 +20,7 @@ use Rattle.rulebook.specs.Sizes.{blockWords, if_then_else_, opens, room}
 use Rattle.rulebook.specs.Starts.{opened}
 use Rattle.rulebook.specs.State.{State, busy, liveHandle, taskAt}
 use Rattle.theorems.specs.Terms.{Every, Harmless, HasGiven, In, IsRead, Once, Spent, byCell, causes, cellsOf, due, onVersion, price, shown, upTo, valuesOf}
-use Rattle.promises.specs.Said.{Build, Spoken, answerAfter, callsIn, isOpen, notedAll, numberOf, poolAfter, poolAll, stateIn, storeOf, tellings, toldAll, wordOf}
+use Rattle.promises.specs.Said.{Ask, Build, Check, Request, Spoken, answerAfter, callsIn, isOpen, notedAll, numberOf, poolAfter, poolAll, stateIn, storeOf, tellings, toldAll, wordOf}
 
 -- f is a build of the C functions; the promises are made of `spoken`
 module _ (f : Build) where
@@ -27,48 +28,56 @@ module _ (f : Build) where
 
   -- The pool comes back as long as it was lent.
   abbrev pub PoolLength : Type 0
-  PoolLength = (x : Asked) (p a : List ℕ) → length (poolAfter f x p a) ≡ length p
+  PoolLength = (x : Request) (p a : List ℕ) → length (poolAfter f x p a) ≡ length p
 
   -- No word after the last block is written; an open counts the blocks of the store that it opens.
   abbrev pub PoolRest : Type 0
-  PoolRest = (x : Asked) (p a : List ℕ) (d : Sizes) → storeOf x p ≡ header.Good d → (i : ℕ) → blockBase d + blockWords (d .n) * d .b ≤ i → getD (poolAfter f x p a) i 0 ≡ getD p i 0
+  PoolRest = (x : Request) (p a : List ℕ) (d : Sizes) → storeOf x p ≡ header.Good d → (i : ℕ) → blockBase d + blockWords (d .n) * d .b ≤ i → getD (poolAfter f x p a) i 0 ≡ getD p i 0
 
   -- The answer slice comes back as long as it was lent.
   abbrev pub AnswerLength : Type 0
-  AnswerLength = (x : Asked) (p a : List ℕ) → length (answerAfter f x p a) ≡ length a
+  AnswerLength = (x : Request) (p a : List ℕ) → length (answerAfter f x p a) ≡ length a
 
   -- No word of the answer slice after its first 16 is written.
   abbrev pub AnswerRest : Type 0
-  AnswerRest = (x : Asked) (p a : List ℕ) (j : ℕ) → 16 ≤ j → wordOf (answerAfter f x p a) j ≡ wordOf a j
+  AnswerRest = (x : Request) (p a : List ℕ) (j : ℕ) → 16 ≤ j → wordOf (answerAfter f x p a) j ≡ wordOf a j
 
   -- A call with an answer slice under 16 words returns 15 and leaves pool and slice as they are, whatever else is wrong.
   abbrev pub ShortSlice : Type 0
-  ShortSlice = (x : Asked) (p a : List ℕ) → length a < 16 → f x p a ≡ ((p, a), 15)
+  ShortSlice = (x : Request) (p a : List ℕ) → length a < 16 → f x p a ≡ ((p, a), 15)
 
   -- A refusal other than 10 changes no word of the pool.
   abbrev pub RefusalKeeps : Type 0
-  RefusalKeeps = (x : Asked) (p a : List ℕ) → (numberOf f x p a ≡ 0 → ⊥) → (numberOf f x p a ≡ 10 → ⊥) → poolAfter f x p a ≡ p
+  RefusalKeeps = (x : Request) (p a : List ℕ) → (numberOf f x p a ≡ 0 → ⊥) → (numberOf f x p a ≡ 10 → ⊥) → poolAfter f x p a ≡ p
 
   -- A refusal other than 10 answers 16 zeros.
   abbrev pub RefusalZeros : Type 0
-  RefusalZeros = (x : Asked) (p a : List ℕ) → 16 ≤ length a → (numberOf f x p a ≡ 0 → ⊥) → (numberOf f x p a ≡ 10 → ⊥) → (j : ℕ) → j < 16 → wordOf (answerAfter f x p a) j ≡ 0
+  RefusalZeros = (x : Request) (p a : List ℕ) → 16 ≤ length a → (numberOf f x p a ≡ 0 → ⊥) → (numberOf f x p a ≡ 10 → ⊥) → (j : ℕ) → j < 16 → wordOf (answerAfter f x p a) j ≡ 0
 
   -- On any pool open returns 0 and tells B where N, H and T are within their limits and there is room for a block, else 3, whatever the words are.
   abbrev pub OpenDue : Type 0
-  OpenDue = (n h t : ℕ) (p a : List ℕ) → 16 ≤ length a → let o = opens n h t (length p) in let x = Open n h t in (numberOf f x p a ≡ (if o then 0 else 3)) × (take 16 (answerAfter f x p a) ≡ (if o then room n h t (length p) else 0) ∷ replicate 15 0)
+  OpenDue = (n h t : ℕ) (p a : List ℕ) → 16 ≤ length a → let o = opens n h t (length p) in let x = Ask (Open n h t) in (numberOf f x p a ≡ (if o then 0 else 3)) × (take 16 (answerAfter f x p a) ≡ (if o then room n h t (length p) else 0) ∷ replicate 15 0)
 
-  -- Every other call returns 1 where words 0 to 5 do not describe the pool, whatever its arguments are.
+  -- Every other call but the check returns 1 where words 0 to 5 do not describe the pool, whatever its arguments are.
   abbrev pub Undescribed : Type 0
-  Undescribed = (x : Asked) (p a : List ℕ) → isOpen x ≡ false → 16 ≤ length a → headerOf p ≡ header.Bad → numberOf f x p a ≡ 1
+  Undescribed = (x : Asked) (p a : List ℕ) → isOpen x ≡ false → 16 ≤ length a → headerOf p ≡ header.Bad → numberOf f (Ask x) p a ≡ 1
 
   -- On a pool that passes the check, each number is returned exactly when document 01's table says, in its order, and 0 where no row applies.
   abbrev pub RefusalDue : Type 0
-  RefusalDue = (x : Asked) (p a : List ℕ) (d : Sizes) → Sound d p → 16 ≤ length a → numberOf f x p a ≡ due (causes (callOf x p) (viewOf d p))
+  RefusalDue = (x : Asked) (p a : List ℕ) (d : Sizes) → Sound d p → 16 ≤ length a → numberOf f (Ask x) p a ≡ due (causes (callOf x p) (viewOf d p))
 
   -- On a pool that passes the check, only a step is refused 10: it found every block held, and leaves its task idle, its slot free, every block as it was
   -- (so an exchange stays), and every live version live with the values that it had.
   abbrev pub TenHarmless : Type 0
-  TenHarmless = (x : Asked) (p a : List ℕ) (d : Sizes) → Sound d p → numberOf f x p a ≡ 10 → (t : ℕ) × (x ≡ Step t) × Harmless (viewOf d p) t (viewOf d (poolAfter f x p a))
+  TenHarmless = (x : Request) (p a : List ℕ) (d : Sizes) → Sound d p → numberOf f x p a ≡ 10 → (t : ℕ) × (x ≡ Ask (Step t)) × Harmless (viewOf d p) t (viewOf d (poolAfter f x p a))
+
+  -- The check returns 0 and changes no word of the pool; it tells the number of the first of document 01's rules that is broken, 0 where none is.
+  abbrev pub CheckTells : Type 0
+  CheckTells = (p a : List ℕ) → 16 ≤ length a → (numberOf f Check p a ≡ 0) × (poolAfter f Check p a ≡ p) × (r : ℕ) × (take 16 (answerAfter f Check p a) ≡ r ∷ replicate 15 0) × FirstBroken p r
+
+  -- The check tells 0 exactly where the pool is a sound store.
+  abbrev pub CheckSound : Type 0
+  CheckSound = (p a : List ℕ) → 16 ≤ length a → let r = wordOf (answerAfter f Check p a) 0 in (r ≡ 0 → (d : Sizes) × Sound d p) × ((d : Sizes) → Sound d p → r ≡ 0)
 
   -- ---- a kept store: any pool, an open that returned 0, and then any calls with any arguments and answer slices, and nothing else
 
@@ -78,13 +87,13 @@ module _ (f : Build) where
     pub handles : ℕ
     pub tasks : ℕ
     pub slice : List ℕ
-    pub accepted : numberOf f (Open cells handles tasks) words slice ≡ 0
+    pub accepted : numberOf f (Ask (Open cells handles tasks)) words slice ≡ 0
     pub calls : List Spoken
 
   module _ (k : Kept) where
     -- the pool as open left it, and as it is after the calls
     abbrev pub poolFirst : List ℕ
-    poolFirst = poolAfter f (Open (k .cells) (k .handles) (k .tasks)) (k .words) (k .slice)
+    poolFirst = poolAfter f (Ask (Open (k .cells) (k .handles) (k .tasks))) (k .words) (k .slice)
 
     abbrev pub poolLast : List ℕ
     poolLast = poolAll f (k .calls) poolFirst
@@ -97,7 +106,7 @@ module _ (f : Build) where
     abbrev pub N : ℕ
     N = diary .store .sizes .n
 
-    -- the machine's opened state, and the machine's calls; a call with a short slice is none
+    -- the machine's opened state, and the machine's calls; a call with a short slice is none, nor is the check
     abbrev pub machineFirst : State
     machineFirst = opened (k .cells) (k .handles) (k .tasks) (length (k .words)) (lieOf (sizesOf (k .cells) (k .handles) (k .tasks) (length (k .words))) (k .words))
 
@@ -118,9 +127,13 @@ module _ (f : Build) where
     abbrev pub MachineHistory : Type 0
     MachineHistory = diary ≡ past machineFirst machineCalls
 
-    -- The pool passes the check.
+    -- The pool is a sound store.
     abbrev pub StaysSound : Type 0
     StaysSound = (d : Sizes) × Sound d poolLast
+
+    -- The check tells 0, after any calls.
+    abbrev pub CheckPasses : Type 0
+    CheckPasses = (a : List ℕ) → 16 ≤ length a → (numberOf f Check poolLast a ≡ 0) × (take 16 (answerAfter f Check poolLast a) ≡ replicate 16 0)
 
     -- Every value that a get ended with, and every value that a page handed out, is the functional array's value of that version at that cell.
     abbrev pub Reads : Type 0
@@ -167,32 +180,3 @@ module _ (f : Build) where
     -- Exactly: new takes N + 1, a set in place 4, a copying set 3 + 4N and its probes; 10 comes at step 1 of a new and at step 2 of a set.
     abbrev pub StepsExact : Type 0
     StepsExact = Every (λ (e : Ended). (operation (e .last) ≡ workCode (e .work)) × Spent N (e .last) (e .told) (e .probes)) (diary .ends)
-
--- All of it, of one build. Proofs.All shows it of the product's, `spoken`.
-pub record Promised (f : Build) : Type 0 where
-  pub pool-length : PoolLength f
-  pub pool-rest : PoolRest f
-  pub answer-length : AnswerLength f
-  pub answer-rest : AnswerRest f
-  pub short-slice : ShortSlice f
-  pub refusal-keeps : RefusalKeeps f
-  pub refusal-zeros : RefusalZeros f
-  pub open-due : OpenDue f
-  pub undescribed : Undescribed f
-  pub refusal-due : RefusalDue f
-  pub ten-harmless : TenHarmless f
-  pub machine-state : (k : Kept f) → MachineState f k
-  pub machine-answers : (k : Kept f) → MachineAnswers f k
-  pub machine-history : (k : Kept f) → MachineHistory f k
-  pub stays-sound : (k : Kept f) → StaysSound f k
-  pub reads : (k : Kept f) → Reads f k
-  pub reads-in-order : (k : Kept f) → ReadsInOrder f k
-  pub pages-join : (k : Kept f) → PagesJoin f k
-  pub pages-join-any : (k : Kept f) → PagesJoinAny f k
-  pub tables : (k : Kept f) → Tables f k
-  pub numbers-once : (k : Kept f) → NumbersOnce f k
-  pub sets-bound : (k : Kept f) → SetsBound f k
-  pub priced : (k : Kept f) → Priced f k
-  pub busy-below : (k : Kept f) → BusyBelow f k
-  pub steps-counted : (k : Kept f) → StepsCounted f k
-  pub steps-exact : (k : Kept f) → StepsExact f k

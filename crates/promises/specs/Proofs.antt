@@ -7,5 +7,6 @@ pub mod Numbers
 pub mod Histories
 pub mod Two
 pub mod Three
+pub mod Checked
 pub mod All
 pub mod Useless

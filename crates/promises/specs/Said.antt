@@ -1,10 +1,11 @@
 -- Calls as C makes them: what a call leaves of the pool and the answer slice, the number that it returns, and what a caller notes of it.
--- Each clause of `spoken` is the right side of that C function's contract. Rests on winchclover, bridge's Asked and the rule book's histories.
+-- Each clause of `spoken` is the right side of that C function's contract. Rests on winchclover, audit, bridge's Asked and the rule book's histories.
 use Prim.Native.Nat.{_+_, ℕ}
 use mathlib.Core.Bool.{Bool, _&&_, _||_, false, not, true}
 use mathlib.Core.List.{List, [], _++_, _∷_}
 use lib.Dec.{eqb, ltb}
 use lib.ListN.{getD, length, take}
+use Rattle.audit.specs.Broken.{brokenIn}
 use Rattle.bridge.specs.Asked.{Asked, Get, LookCell, LookEntry, LookLog, LookTask, LookVersion, New, Open, Page, Release, Report, Set, Step, callOf}
 use Rattle.pool.specs.Calls.{lookCellIn, lookEntryIn, lookLogIn, lookTaskIn, lookVersionIn, releaseIn, reportIn, startGetIn, startNewIn, startPageIn, startSetIn, stepIn}
 use Rattle.pool.specs.declared.Header.{Header}
@@ -14,6 +15,7 @@ use Rattle.pool.specs.Pool.{openIn, viewOf}
 use Rattle.rulebook.specs.Answers.{refusal, word}
 use Rattle.rulebook.specs.Array.{newTable, setTable}
 use Rattle.rulebook.specs.declared.Reply.{Reply}
+use Rattle.rulebook.specs.declared.Reply.the-variants as reply
 use Rattle.rulebook.specs.declared.Stage.{Stage}
 use Rattle.rulebook.specs.History.{Ended, Numbered, Past, Value, Work, change, fresh, isSet, making, notYetSet, one, paging, probing, reading, released, resting, setting, started, tableOf}
 use Rattle.rulebook.specs.Machine.{Call}
@@ -27,54 +29,61 @@ use Rattle.winchclover.specs.Answered.{answeredIn, shownIn}
 abbrev pub Outcome : Type 0
 Outcome = (List ℕ × List ℕ) × ℕ
 
+-- what C may ask: a call that the machine has too, or the check
+pub data Request : Type 0 where
+  Ask : Asked → Request
+  Check : Request
+
 -- a build of the C functions: what is asked, pool and answer slice as they are lent, and what comes of it
 abbrev pub Build : Type 0
-Build = Asked → List ℕ → List ℕ → Outcome
+Build = Request → List ℕ → List ℕ → Outcome
 
 -- a call that only looks leaves the pool
 abbrev looks : List ℕ → List ℕ × ℕ → Outcome
 looks p z = ((p, z .0), z .1)
 
 -- the product's build
-unfoldable pub spoken : Asked → List ℕ → List ℕ → Outcome
-spoken (Open n h t) p a = answeredIn (λ q. openIn q n h t) p a
-spoken (New t v) p a = answeredIn (λ q. startNewIn q t v) p a
-spoken (Get t h i) p a = answeredIn (λ q. startGetIn q t h i) p a
-spoken (Set t h i v) p a = answeredIn (λ q. startSetIn q t h i v) p a
-spoken (Page t h from m) p a = answeredIn (λ q. startPageIn q t h from m) p a
-spoken (Step t) p a = answeredIn (λ q. stepIn q t) p a
-spoken (Release h) p a = answeredIn (λ q. releaseIn q h) p a
-spoken (LookVersion b) p a = looks p (shownIn (λ q. lookVersionIn q b) p a)
-spoken (LookCell b i) p a = looks p (shownIn (λ q. lookCellIn q b i) p a)
-spoken (LookLog b i) p a = looks p (shownIn (λ q. lookLogIn q b i) p a)
-spoken (LookEntry b i j) p a = looks p (shownIn (λ q. lookEntryIn q b i j) p a)
-spoken (LookTask t) p a = looks p (shownIn (λ q. lookTaskIn q t) p a)
-spoken Report p a = looks p (shownIn reportIn p a)
+unfoldable pub spoken : Request → List ℕ → List ℕ → Outcome
+spoken (Ask (Open n h t)) p a = answeredIn (λ q. openIn q n h t) p a
+spoken (Ask (New t v)) p a = answeredIn (λ q. startNewIn q t v) p a
+spoken (Ask (Get t h i)) p a = answeredIn (λ q. startGetIn q t h i) p a
+spoken (Ask (Set t h i v)) p a = answeredIn (λ q. startSetIn q t h i v) p a
+spoken (Ask (Page t h from m)) p a = answeredIn (λ q. startPageIn q t h from m) p a
+spoken (Ask (Step t)) p a = answeredIn (λ q. stepIn q t) p a
+spoken (Ask (Release h)) p a = answeredIn (λ q. releaseIn q h) p a
+spoken (Ask (LookVersion b)) p a = looks p (shownIn (λ q. lookVersionIn q b) p a)
+spoken (Ask (LookCell b i)) p a = looks p (shownIn (λ q. lookCellIn q b i) p a)
+spoken (Ask (LookLog b i)) p a = looks p (shownIn (λ q. lookLogIn q b i) p a)
+spoken (Ask (LookEntry b i j)) p a = looks p (shownIn (λ q. lookEntryIn q b i j) p a)
+spoken (Ask (LookTask t)) p a = looks p (shownIn (λ q. lookTaskIn q t) p a)
+spoken (Ask Report) p a = looks p (shownIn reportIn p a)
+spoken Check p a = looks p (shownIn (λ q. reply.Shown (brokenIn q)) p a)
 
-abbrev pub poolAfter : Build → Asked → List ℕ → List ℕ → List ℕ
+abbrev pub poolAfter : Build → Request → List ℕ → List ℕ → List ℕ
 poolAfter f x p a = f x p a .0 .0
 
-abbrev pub answerAfter : Build → Asked → List ℕ → List ℕ → List ℕ
+abbrev pub answerAfter : Build → Request → List ℕ → List ℕ → List ℕ
 answerAfter f x p a = f x p a .0 .1
 
-abbrev pub numberOf : Build → Asked → List ℕ → List ℕ → ℕ
+abbrev pub numberOf : Build → Request → List ℕ → List ℕ → ℕ
 numberOf f x p a = f x p a .1
 
 -- the sizes of the store that a call is about: open's are those that it opens, the others' stand in words 0 to 5
-unfoldable pub storeOf : Asked → List ℕ → Header
-storeOf (Open n h t) p = sizesIn n h t (length p)
-storeOf (New t v) p = headerOf p
-storeOf (Get t h i) p = headerOf p
-storeOf (Set t h i v) p = headerOf p
-storeOf (Page t h from m) p = headerOf p
-storeOf (Step t) p = headerOf p
-storeOf (Release h) p = headerOf p
-storeOf (LookVersion b) p = headerOf p
-storeOf (LookCell b i) p = headerOf p
-storeOf (LookLog b i) p = headerOf p
-storeOf (LookEntry b i j) p = headerOf p
-storeOf (LookTask t) p = headerOf p
-storeOf Report p = headerOf p
+unfoldable pub storeOf : Request → List ℕ → Header
+storeOf (Ask (Open n h t)) p = sizesIn n h t (length p)
+storeOf (Ask (New t v)) p = headerOf p
+storeOf (Ask (Get t h i)) p = headerOf p
+storeOf (Ask (Set t h i v)) p = headerOf p
+storeOf (Ask (Page t h from m)) p = headerOf p
+storeOf (Ask (Step t)) p = headerOf p
+storeOf (Ask (Release h)) p = headerOf p
+storeOf (Ask (LookVersion b)) p = headerOf p
+storeOf (Ask (LookCell b i)) p = headerOf p
+storeOf (Ask (LookLog b i)) p = headerOf p
+storeOf (Ask (LookEntry b i j)) p = headerOf p
+storeOf (Ask (LookTask t)) p = headerOf p
+storeOf (Ask Report) p = headerOf p
+storeOf Check p = headerOf p
 
 abbrev pub isOpen : Asked → Bool
 isOpen (Open n h t) = true
@@ -182,28 +191,34 @@ notedBy (LookEntry b i j) s k a p = p
 notedBy (LookTask t) s k a p = p
 notedBy Report s k a p = p
 
--- a refused call is not noted, but for 10
-unfoldable pub notes : Asked → State → ℕ → List ℕ → Past → Past
-notes x s k a p = if eqb k 0 || eqb k 10 then notedBy x s k a p else p
+-- a refused call is not noted, but for 10; nor is the check
+unfoldable pub notes : Request → State → ℕ → List ℕ → Past → Past
+notes (Ask x) s k a p = if eqb k 0 || eqb k 10 then notedBy x s k a p else p
+notes Check s k a p = p
 
 -- ---- calls one after another, each with an answer slice of its own
 
 pub record Spoken : Type 0 where
-  pub call : Asked
+  pub call : Request
   pub slice : List ℕ
+
+-- the machine has no such call: the slice is short, or it is the check
+abbrev pub aside : Request → List ℕ → Bool
+aside (Ask x) a = short a
+aside Check a = true
 
 -- the pool after them
 unfoldable pub poolAll : Build → List Spoken → List ℕ → List ℕ
 poolAll f [] p = p
 poolAll f (c ∷ cs) p = poolAll f cs (poolAfter f (c .call) p (c .slice))
 
--- what they told, of each whose slice was not short: the number, and the first 16 words of the slice
+-- what they told, of each that the machine has: the number, and the first 16 words of the slice
 unfoldable pub toldAll : Build → List Spoken → List ℕ → List (ℕ × List ℕ)
 toldAll f [] p = []
 toldAll f (c ∷ cs) p =
     let z = f (c .call) p (c .slice) in
     let r = toldAll f cs (z .0 .0) in
-    if short (c .slice) then r else (z .1, take 16 (z .0 .1)) ∷ r
+    if aside (c .call) (c .slice) then r else (z .1, take 16 (z .0 .1)) ∷ r
 
 -- what a caller has noted after them, on top of y
 unfoldable pub notedAll : Build → List Spoken → List ℕ → Past → Past
@@ -211,12 +226,15 @@ notedAll f [] p y = y
 notedAll f (c ∷ cs) p y =
     let z = f (c .call) p (c .slice) in notedAll f cs (z .0 .0) (notes (c .call) (stateIn (z .0 .0)) (z .1) (z .0 .1) y)
 
--- the machine's calls that they amount to: a call with a short slice is none
+-- the machine's call that a request amounts to, before those that follow; a call with a short slice is none
+abbrev pub amounts : Request → List ℕ → List ℕ → List Call → List Call
+amounts (Ask x) a p r = if short a then r else callOf x p ∷ r
+amounts Check a p r = r
+
+-- the machine's calls that they amount to
 unfoldable pub callsIn : Build → List Spoken → List ℕ → List Call
 callsIn f [] p = []
-callsIn f (c ∷ cs) p =
-    let r = callsIn f cs (poolAfter f (c .call) p (c .slice)) in
-    if short (c .slice) then r else callOf (c .call) p ∷ r
+callsIn f (c ∷ cs) p = amounts (c .call) (c .slice) p (callsIn f cs (poolAfter f (c .call) p (c .slice)))
 
 -- the number and the 16 words of each of the machine's answers
 unfoldable pub tellings : List Reply → List (ℕ × List ℕ)

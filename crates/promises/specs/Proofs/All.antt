@@ -1,6 +1,7 @@
 -- The product keeps every promise.
--- Rests on One, Numbers, Two and Three.
-use Rattle.promises.specs.Promises.{Promised}
+-- Rests on One, Numbers, Two, Three and Checked.
+use Rattle.promises.specs.Promised.{Promised}
+use Rattle.promises.specs.Proofs.Checked.{check-passes, check-sound, check-tells}
 use Rattle.promises.specs.Proofs.Numbers.{open-due, refusal-due, ten-harmless, undescribed}
 use Rattle.promises.specs.Proofs.One.{answer-length, answer-rest, pool-length, pool-rest, refusal-keeps, refusal-zeros, short-slice}
 use Rattle.promises.specs.Proofs.Three.{busy-below, priced, sets-bound, steps-counted, steps-exact}
@@ -20,10 +21,13 @@ promised = record {
   undescribed = undescribed;
   refusal-due = refusal-due;
   ten-harmless = ten-harmless;
+  check-tells = check-tells;
+  check-sound = check-sound;
   machine-state = machine-state;
   machine-answers = machine-answers;
   machine-history = machine-history;
   stays-sound = stays-sound;
+  check-passes = check-passes;
   reads = reads;
   reads-in-order = reads-in-order;
   pages-join = pages-join;

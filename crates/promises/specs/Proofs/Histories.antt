@@ -1,4 +1,4 @@
--- A list of calls as C makes them is bridge's list of those with a slice that is not short; what a caller notes of them is the machine's history.
+-- A list of calls as C makes them is bridge's list of those that the machine has, with a slice that is not short; what a caller notes of them is the machine's history.
 -- Rests on Calls and on the bridge.
 use Prim.Native.Nat.{ℕ}
 use mathlib.Core.Bool.{false, true}
@@ -19,56 +19,68 @@ use Rattle.rulebook.specs.Sizes.{if_then_else_}
 use Rattle.rulebook.specs.State.{State, listTo}
 use Rattle.rulebook.specs.Tests.{by-test}
 use Rattle.theorems.specs.Proofs.Follows.{next-store}
-use Rattle.promises.specs.Proofs.Calls.{spoken-long, spoken-short, telling}
-use Rattle.promises.specs.Said.{Outcome, Spoken, callsIn, notedAll, notedBy, notes, poolAll, short, spoken, stateIn, stateUnder, steppedBy, tellings, toldAll}
+use Rattle.promises.specs.Proofs.Calls.{spoken-case, spoken-long, spoken-short, telling}
+use Rattle.promises.specs.Said.{Ask, Check, Outcome, Request, Spoken, amounts, aside, callsIn, notedAll, notedBy, notes, poolAfter, poolAll, short, spoken, stateIn, stateUnder, steppedBy, tellings, toldAll}
 
--- ---- the list without the calls that are nothing
+-- ---- the list without the checks and the calls that are nothing
+
+-- one request before the calls r
+abbrev heed : Request → List ℕ → List Asked → List Asked
+heed (Ask x) a r = if short a then r else x ∷ r
+heed Check a r = r
 
 -- those whose slice is not short
 pub heeded : List Spoken → List Asked
 heeded [] = []
-heeded (c ∷ cs) = let r = heeded cs in if short (c .slice) then r else c .call ∷ r
+heeded (c ∷ cs) = heed (c .call) (c .slice) (heeded cs)
 
-module _ (c : Spoken) (cs : List Spoken) where
-  heeded-short : short (c .slice) ≡ true → heeded (c ∷ cs) ≡ heeded cs
-  unfolding heeded
-  heeded-short e = rw e
-
-  heeded-long : short (c .slice) ≡ false → heeded (c ∷ cs) ≡ c .call ∷ heeded cs
-  unfolding heeded
-  heeded-long e = rw e
+-- the check leaves the pool
+pub check-leaves : (p a : List ℕ) → poolAfter spoken Check p a ≡ p
+check-leaves p a = spoken-case Check p a (λ (z : Outcome). z .0 .0 ≡ p) (λ _. refl) (λ _. refl)
 
 -- the pool after the calls
 pub pool-all : (cs : List Spoken) (p : List ℕ) → poolAll spoken cs p ≡ askedAll (heeded cs) p .0
 unfolding poolAll askedAll heeded
 pool-all [] p = refl
-pool-all (c ∷ cs) p =
-    by-test (short (c .slice))
-    (λ e. ap (λ (z : Outcome). poolAll spoken cs (z .0 .0)) (spoken-short (c .call) p (c .slice) e) ∙ pool-all cs p ∙ ap (λ (l : List Asked). askedAll l p .0) (sym (heeded-short c cs e)))
-    (λ e. ap (λ (z : Outcome). poolAll spoken cs (z .0 .0)) (spoken-long (c .call) p (c .slice) e) ∙ pool-all cs (asked (c .call) p .0) ∙ ap (λ (l : List Asked). askedAll l p .0) (sym (heeded-long c cs e)))
+pool-all (c ∷ cs) p = at (c .call) (c .slice) (pool-all cs)
+  where
+    at : (x : Request) (a : List ℕ) → ((q : List ℕ) → poolAll spoken cs q ≡ askedAll (heeded cs) q .0) → poolAll spoken cs (poolAfter spoken x p a) ≡ askedAll (heed x a (heeded cs)) p .0
+    at (Ask x) a ih =
+        by-test (short a)
+        (λ e. ap (λ (z : Outcome). poolAll spoken cs (z .0 .0)) (spoken-short (Ask x) p a e) ∙ rw e (ih p))
+        (λ e. ap (λ (z : Outcome). poolAll spoken cs (z .0 .0)) (spoken-long (Ask x) p a e) ∙ rw e (ih (asked x p .0)))
+    at Check a ih = ap (poolAll spoken cs) (check-leaves p a) ∙ ih p
 
 -- the machine's calls that they amount to
 pub calls-all : (cs : List Spoken) (p : List ℕ) → callsIn spoken cs p ≡ callsOf (heeded cs) p
 unfolding callsIn callsOf heeded
 calls-all [] p = refl
-calls-all (c ∷ cs) p =
-    let step : Outcome → List Call = λ z. if short (c .slice) then callsIn spoken cs (z .0 .0) else callOf (c .call) p ∷ callsIn spoken cs (z .0 .0) in
-    by-test (short (c .slice))
-    (λ e. ap step (spoken-short (c .call) p (c .slice) e) ∙ rw e (calls-all cs p))
-    (λ e. ap step (spoken-long (c .call) p (c .slice) e) ∙ rw e (ap (λ (l : List Call). callOf (c .call) p ∷ l) (calls-all cs (asked (c .call) p .0))))
+calls-all (c ∷ cs) p = at (c .call) (c .slice) (calls-all cs)
+  where
+    at : (x : Request) (a : List ℕ) → ((q : List ℕ) → callsIn spoken cs q ≡ callsOf (heeded cs) q) → amounts x a p (callsIn spoken cs (poolAfter spoken x p a)) ≡ callsOf (heed x a (heeded cs)) p
+    at (Ask x) a ih =
+        let step : Outcome → List Call = λ z. if short a then callsIn spoken cs (z .0 .0) else callOf x p ∷ callsIn spoken cs (z .0 .0) in
+        by-test (short a)
+        (λ e. ap step (spoken-short (Ask x) p a e) ∙ rw e (ih p))
+        (λ e. ap step (spoken-long (Ask x) p a e) ∙ rw e (ap (λ (l : List Call). callOf x p ∷ l) (ih (asked x p .0))))
+    at Check a ih = ap (callsIn spoken cs) (check-leaves p a) ∙ ih p
 
 -- what they tell
 pub told-all : (cs : List Spoken) (p : List ℕ) → toldAll spoken cs p ≡ tellings (askedAll (heeded cs) p .1)
 unfolding toldAll askedAll heeded tellings listTo
 told-all [] p = refl
-told-all (c ∷ cs) p =
-    let step : Outcome → List (ℕ × List ℕ) = λ z. if short (c .slice) then toldAll spoken cs (z .0 .0) else (z .1, take 16 (z .0 .1)) ∷ toldAll spoken cs (z .0 .0) in
-    by-test (short (c .slice))
-    (λ e. ap step (spoken-short (c .call) p (c .slice) e) ∙ rw e (told-all cs p))
-    (λ e. ap step (spoken-long (c .call) p (c .slice) e) ∙ rw e (ap (λ (l : List (ℕ × List ℕ)). told (asked (c .call) p .1) ∷ l) (told-all cs (asked (c .call) p .0))))
+told-all (c ∷ cs) p = at (c .call) (c .slice) (told-all cs)
   where
     told : Reply → ℕ × List ℕ
     told r = (refusal r, listTo 16 (λ (j : ℕ). word j r))
+
+    at : (x : Request) (a : List ℕ) → ((q : List ℕ) → toldAll spoken cs q ≡ tellings (askedAll (heeded cs) q .1)) → (let z = spoken x p a in if aside x a then toldAll spoken cs (z .0 .0) else (z .1, take 16 (z .0 .1)) ∷ toldAll spoken cs (z .0 .0)) ≡ tellings (askedAll (heed x a (heeded cs)) p .1)
+    at (Ask x) a ih =
+        let step : Outcome → List (ℕ × List ℕ) = λ z. if short a then toldAll spoken cs (z .0 .0) else (z .1, take 16 (z .0 .1)) ∷ toldAll spoken cs (z .0 .0) in
+        by-test (short a)
+        (λ e. ap step (spoken-short (Ask x) p a e) ∙ rw e (ih p))
+        (λ e. ap step (spoken-long (Ask x) p a e) ∙ rw e (ap (λ (l : List (ℕ × List ℕ)). told (asked x p .1) ∷ l) (ih (asked x p .0))))
+    at Check a ih = ap (toldAll spoken cs) (check-leaves p a) ∙ ih p
 
 -- ---- what is noted of one call
 
@@ -86,7 +98,7 @@ step-reply (setting h i v) t a s r y = refl
 step-reply (paging h from m) t a s r y = refl
 
 notes-reply : (x : Asked) (p a : List ℕ) (s : State) (r : Reply) (y : Past)
-    → notes x s (refusal r) (telling r a) y ≡ (if accepted r then noted (callOf x p) s r y else y)
+    → notes (Ask x) s (refusal r) (telling r a) y ≡ (if accepted r then noted (callOf x p) s r y else y)
 unfolding notes notedBy noted callOf
 notes-reply (Open n h t) p a s r y = refl
 notes-reply (New t v) p a s r y = refl
@@ -110,32 +122,33 @@ module _ (x : Asked) {d : Sizes} {p : List ℕ} (S : Sound d p) (a : List ℕ) (
   after : viewOf (sizesAfter x p d) (asked x p .0) ≡ call (callOf x p) (y .store) .0
   after = b .state ∙ ap (λ (s : State). call (callOf x p) s .0) (sym e)
 
-  next-notes : notes x (stateIn (asked x p .0)) (refusal (asked x p .1)) (telling (asked x p .1) a) y ≡ next (callOf x p) y
+  next-notes : notes (Ask x) (stateIn (asked x p .0)) (refusal (asked x p .1)) (telling (asked x p .1) a) y ≡ next (callOf x p) y
   unfolding next
   next-notes =
-      ap₂ (λ (s : State) (r : Reply). notes x s (refusal r) (telling r a) y) (sound-state _ _ (b .sound) ∙ after) (b .reply ∙ ap (λ (s : State). call (callOf x p) s .1) (sym e))
+      ap₂ (λ (s : State) (r : Reply). notes (Ask x) s (refusal r) (telling r a) y) (sound-state _ _ (b .sound) ∙ after) (b .reply ∙ ap (λ (s : State). call (callOf x p) s .1) (sym e))
       ∙ notes-reply x p a (call (callOf x p) (y .store) .0) (call (callOf x p) (y .store) .1) y
 
   next-shows : next (callOf x p) y .store ≡ viewOf (sizesAfter x p d) (asked x p .0)
   next-shows = next-store (callOf x p) y ∙ sym after
 
 -- a short slice: nothing is noted
-notes-short : (x : Asked) (s : State) (a : List ℕ) (y : Past) → notes x s 15 a y ≡ y
+notes-short : (x : Asked) (s : State) (a : List ℕ) (y : Past) → notes (Ask x) s 15 a y ≡ y
 unfolding notes
 notes-short x s a y = refl
 
 -- what is noted of all calls
 pub noted-all : (cs : List Spoken) {d : Sizes} {p : List ℕ} → Sound d p → (y : Past) → y .store ≡ viewOf d p → notedAll spoken cs p y ≡ onward y (callsOf (heeded cs) p)
-unfolding notedAll onward callsOf heeded
+unfolding notedAll onward callsOf heeded notes
 noted-all [] S y e = refl
-noted-all (c ∷ cs) {d} {p} S y e =
-    let x = c .call in
-    let a = c .slice in
-    let step : Outcome → Past = λ z. notedAll spoken cs (z .0 .0) (notes x (stateIn (z .0 .0)) (z .1) (z .0 .1) y) in
-    by-test (short a)
-    (λ s. ap step (spoken-short x p a s) ∙ ap (notedAll spoken cs p) (notes-short x (stateIn p) a y) ∙ noted-all cs S y e ∙ ap (λ (l : List Asked). onward y (callsOf l p)) (sym (heeded-short c cs s)))
-    (λ s.
-    ap step (spoken-long x p a s)
-    ∙ ap (notedAll spoken cs (asked x p .0)) (next-notes x S a y e)
-    ∙ noted-all cs (bridge x S .sound) (next (callOf x p) y) (next-shows x S a y e)
-    ∙ ap (λ (l : List Asked). onward y (callsOf l p)) (sym (heeded-long c cs s)))
+noted-all (c ∷ cs) {d} {p} S y e = at (c .call) (c .slice) (λ _ _ T. noted-all cs T)
+  where
+    at : (x : Request) (a : List ℕ) → ((d : Sizes) (p : List ℕ) → Sound d p → (y : Past) → y .store ≡ viewOf d p → notedAll spoken cs p y ≡ onward y (callsOf (heeded cs) p)) → (let z = spoken x p a in notedAll spoken cs (z .0 .0) (notes x (stateIn (z .0 .0)) (z .1) (z .0 .1) y)) ≡ onward y (callsOf (heed x a (heeded cs)) p)
+    at (Ask x) a ih =
+        let step : Outcome → Past = λ z. notedAll spoken cs (z .0 .0) (notes (Ask x) (stateIn (z .0 .0)) (z .1) (z .0 .1) y) in
+        by-test (short a)
+        (λ s. ap step (spoken-short (Ask x) p a s) ∙ ap (notedAll spoken cs p) (notes-short x (stateIn p) a y) ∙ rw s (ih d p S y e))
+        (λ s.
+        ap step (spoken-long (Ask x) p a s)
+        ∙ ap (notedAll spoken cs (asked x p .0)) (next-notes x S a y e)
+        ∙ rw s (ih _ _ (bridge x S .sound) (next (callOf x p) y) (next-shows x S a y e)))
+    at Check a ih = ap (λ (q : List ℕ). notedAll spoken cs q y) (check-leaves p a) ∙ ih d p S y e

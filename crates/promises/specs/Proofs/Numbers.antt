@@ -41,7 +41,7 @@ use Rattle.theorems.specs.Proofs.Ten as ten
 use Rattle.theorems.specs.Terms.{Every, Harmless, causes, due, more, none}
 use Rattle.promises.specs.Promises.{OpenDue, RefusalDue, TenHarmless, Undescribed}
 use Rattle.promises.specs.Proofs.Calls.{spoken-case, spoken-long, telling}
-use Rattle.promises.specs.Said.{Outcome, isOpen, numberOf, poolAfter, spoken}
+use Rattle.promises.specs.Said.{Ask, Check, Outcome, isOpen, numberOf, poolAfter, spoken}
 
 -- ---- before the store is looked at
 
@@ -59,7 +59,7 @@ opens-told p n h t q a =
 pub open-due : OpenDue spoken
 unfolding asked
 open-due n h t p a l =
-    subst⁻¹ (Opens (opens n h t (length p)) (room n h t (length p))) (spoken-long (Open n h t) p a (le-ltb (length a) 16 l)) (opens-told p n h t (openIn p n h t .0) a)
+    subst⁻¹ (Opens (opens n h t (length p)) (room n h t (length p))) (spoken-long (Ask (Open n h t)) p a (le-ltb (length a) 16 l)) (opens-told p n h t (openIn p n h t .0) a)
 
 -- 1, whatever is planned or looked for
 called-bad : (r : Header) (p : List ℕ) (f : Sight → Act) → r ≡ header.Bad → refusal (calledIn r p f .1) ≡ 1
@@ -87,13 +87,13 @@ asked-bad (LookTask t) p o e = seen-bad (headerOf p) p _ e
 asked-bad Report p o e = seen-bad (headerOf p) p _ e
 
 pub undescribed : Undescribed spoken
-undescribed x p a o l e = subst⁻¹ (λ (z : Outcome). z .1 ≡ 1) (spoken-long x p a (le-ltb (length a) 16 l)) (asked-bad x p o e)
+undescribed x p a o l e = subst⁻¹ (λ (z : Outcome). z .1 ≡ 1) (spoken-long (Ask x) p a (le-ltb (length a) 16 l)) (asked-bad x p o e)
 
 -- ---- on a pool that passes the check
 
 pub refusal-due : RefusalDue spoken
 refusal-due x p a d S l =
-    subst⁻¹ (λ (z : Outcome). z .1 ≡ due (causes (callOf x p) (viewOf d p))) (spoken-long x p a (le-ltb (length a) 16 l))
+    subst⁻¹ (λ (z : Outcome). z .1 ≡ due (causes (callOf x p) (viewOf d p))) (spoken-long (Ask x) p a (le-ltb (length a) 16 l))
     (ap refusal (bridge x S .reply) ∙ fits-call (viewOf d p) (callOf x p) .is-due)
 
 -- a step leaves the slots of live handles as they were: it does not look at amounts, and from a store with none the invariant says so
@@ -102,12 +102,12 @@ unfolding call
 live-slots s sh r t j l =
     ap (λ (x : State). slotAt x j) (erase-call (machine.Step t) s) ∙ inv-step (erase s) (erase-shape s sh) (rules-inv s r) t .1 j l .0
 
-step-harmless : (t : ℕ) (p a : List ℕ) (d : Sizes) → Sound d p → numberOf spoken (Step t) p a ≡ 10 → Harmless (viewOf d p) t (viewOf d (poolAfter spoken (Step t) p a))
+step-harmless : (t : ℕ) (p a : List ℕ) (d : Sizes) → Sound d p → numberOf spoken (Ask (Step t)) p a ≡ 10 → Harmless (viewOf d p) t (viewOf d (poolAfter spoken (Ask (Step t)) p a))
 unfolding callOf sizesAfter call
 step-harmless t p a d S =
     let b = bridge (Step t) S in
     let s = viewOf d p in
-    spoken-case (Step t) p a (λ (z : Outcome). z .1 ≡ 10 → Harmless s t (viewOf d (z .0 .0)))
+    spoken-case (Ask (Step t)) p a (λ (z : Outcome). z .1 ≡ 10 → Harmless s t (viewOf d (z .0 .0)))
     (λ _ e. absurd (let q : _≡_ {A = ℕ} 15 10 = e in omega arith))
     (λ _ e. subst⁻¹ (Harmless s t) (b .state) (ten.ten-harmless s (sound-shape d p S) t (live-slots s (sound-shape d p S) (S .rules) t) (ap refusal (sym (b .reply)) ∙ e)))
 
@@ -121,24 +121,28 @@ due-not [] none e = let z : _≡_ {A = ℕ} 0 10 = e in omega arith
 due-not (c ∷ cs) (more h m) e = by-test (c .0) (λ b. eqb-false (c .1) 10 h (rw b at e)) (λ b. due-not cs m (rw b at e))
 
 -- so the call is never refused 10
-never-ten : {Q : Type 0} (x : Asked) (p a : List ℕ) (d : Sizes) → Sound d p → NoTen (causes (callOf x p) (viewOf d p)) → numberOf spoken x p a ≡ 10 → Q
+never-ten : {Q : Type 0} (x : Asked) (p a : List ℕ) (d : Sizes) → Sound d p → NoTen (causes (callOf x p) (viewOf d p)) → numberOf spoken (Ask x) p a ≡ 10 → Q
 never-ten {Q} x p a d S rows =
-    spoken-case x p a (λ (z : Outcome). z .1 ≡ 10 → Q)
+    spoken-case (Ask x) p a (λ (z : Outcome). z .1 ≡ 10 → Q)
     (λ _ e. absurd (let q : _≡_ {A = ℕ} 15 10 = e in omega arith))
     (λ _ e. absurd (due-not (causes (callOf x p) (viewOf d p)) rows (sym (ap refusal (bridge x S .reply) ∙ fits-call (viewOf d p) (callOf x p) .is-due) ∙ e)))
 
 pub ten-harmless : TenHarmless spoken
 unfolding callOf
-ten-harmless (Open n h t) p a d S = never-ten (Open n h t) p a d S (more refl none)
-ten-harmless (New t v) p a d S = never-ten (New t v) p a d S (more refl (more refl (more refl none)))
-ten-harmless (Get t h i) p a d S = never-ten (Get t h i) p a d S (more refl (more refl (more refl (more refl none))))
-ten-harmless (Set t h i v) p a d S = never-ten (Set t h i v) p a d S (more refl (more refl (more refl (more refl (more refl none)))))
-ten-harmless (Page t h i m) p a d S = never-ten (Page t h i m) p a d S (more refl (more refl (more refl (more refl (more refl none)))))
-ten-harmless (Step t) p a d S = λ e. (t, refl, step-harmless t p a d S e)
-ten-harmless (Release h) p a d S = never-ten (Release h) p a d S (more refl (more refl none))
-ten-harmless (LookVersion b) p a d S = never-ten (LookVersion b) p a d S (more refl none)
-ten-harmless (LookCell b i) p a d S = never-ten (LookCell b i) p a d S (more refl (more refl none))
-ten-harmless (LookLog b i) p a d S = never-ten (LookLog b i) p a d S (more refl (more refl none))
-ten-harmless (LookEntry b i j) p a d S = never-ten (LookEntry b i j) p a d S (more refl (more refl (more refl none)))
-ten-harmless (LookTask t) p a d S = never-ten (LookTask t) p a d S (more refl none)
-ten-harmless Report p a d S = never-ten Report p a d S none
+ten-harmless (Ask (Open n h t)) p a d S = never-ten (Open n h t) p a d S (more refl none)
+ten-harmless (Ask (New t v)) p a d S = never-ten (New t v) p a d S (more refl (more refl (more refl none)))
+ten-harmless (Ask (Get t h i)) p a d S = never-ten (Get t h i) p a d S (more refl (more refl (more refl (more refl none))))
+ten-harmless (Ask (Set t h i v)) p a d S = never-ten (Set t h i v) p a d S (more refl (more refl (more refl (more refl (more refl none)))))
+ten-harmless (Ask (Page t h i m)) p a d S = never-ten (Page t h i m) p a d S (more refl (more refl (more refl (more refl (more refl none)))))
+ten-harmless (Ask (Step t)) p a d S = λ e. (t, refl, step-harmless t p a d S e)
+ten-harmless (Ask (Release h)) p a d S = never-ten (Release h) p a d S (more refl (more refl none))
+ten-harmless (Ask (LookVersion b)) p a d S = never-ten (LookVersion b) p a d S (more refl none)
+ten-harmless (Ask (LookCell b i)) p a d S = never-ten (LookCell b i) p a d S (more refl (more refl none))
+ten-harmless (Ask (LookLog b i)) p a d S = never-ten (LookLog b i) p a d S (more refl (more refl none))
+ten-harmless (Ask (LookEntry b i j)) p a d S = never-ten (LookEntry b i j) p a d S (more refl (more refl (more refl none)))
+ten-harmless (Ask (LookTask t)) p a d S = never-ten (LookTask t) p a d S (more refl none)
+ten-harmless (Ask Report) p a d S = never-ten Report p a d S none
+ten-harmless Check p a d S =
+    spoken-case Check p a (λ (z : Outcome). z .1 ≡ 10 → (t : ℕ) × (Check ≡ Ask (Step t)) × Harmless (viewOf d p) t (viewOf d (z .0 .0)))
+    (λ _ e. absurd (let q : _≡_ {A = ℕ} 15 10 = e in omega arith))
+    (λ _ e. absurd (let q : _≡_ {A = ℕ} 0 10 = e in omega arith))

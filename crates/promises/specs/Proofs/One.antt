@@ -13,7 +13,7 @@ use borrow.Author.Tests.{eqb-true, le-ltb, lt-ltb, ltb-false}
 use Rattle.acts.specs.declared.Act.{Act}
 use Rattle.acts.specs.Plans.{planGet, planNew, planPage, planRelease, planSet, planStep, refused}
 use Rattle.acts.specs.Sight.{Sight}
-use Rattle.bridge.specs.Asked.{Asked, Get, LookCell, LookEntry, LookLog, LookTask, LookVersion, New, Open, Page, Release, Report, Set, Step, asked}
+use Rattle.bridge.specs.Asked.{Get, LookCell, LookEntry, LookLog, LookTask, LookVersion, New, Open, Page, Release, Report, Set, Step, asked}
 use Rattle.pool.specs.Acts.{applied-answers, applied-done, applied-keeps, applied-not}
 use Rattle.pool.specs.Calls.{calledIn, releaseIn, startGetIn, startNewIn, startPageIn, startSetIn, stepIn}
 use Rattle.pool.specs.declared.Header.{Header}
@@ -34,9 +34,9 @@ use Rattle.rulebook.specs.State.{listTo}
 use Rattle.rulebook.specs.Tests.{by-test}
 use Rattle.store.specs.Reach.{get-reaches, new-reaches, page-reaches, release-reaches, set-reaches, step-reaches}
 use Rattle.promises.specs.Promises.{AnswerLength, AnswerRest, PoolLength, PoolRest, RefusalKeeps, RefusalZeros, ShortSlice}
-use Rattle.promises.specs.Proofs.Calls.{spoken-case, spoken-long, spoken-short, telling}
+use Rattle.promises.specs.Proofs.Calls.{heard, spoken-case, spoken-long, spoken-short, telling}
 use Rattle.promises.specs.Proofs.Refusals.{Fair, get-fair, new-fair, page-fair, release-fair, set-fair, step-fair}
-use Rattle.promises.specs.Said.{Outcome, storeOf, spoken}
+use Rattle.promises.specs.Said.{Ask, Check, Outcome, Request, storeOf, spoken}
 
 -- ---- what a call does to the pool's words
 
@@ -122,21 +122,22 @@ careful-open p n h t =
     })
     (λ o. rw (open-not p n h t o) (careful-look _ p (reply.Refused 3)))
 
-careful : (x : Asked) (p : List ℕ) → Careful (storeOf x p) p (asked x p)
+careful : (x : Request) (p : List ℕ) → Careful (storeOf x p) p (heard x p)
 unfolding asked storeOf startNewIn startGetIn startSetIn startPageIn stepIn releaseIn
-careful (Open n h t) p = careful-open p n h t
-careful (New t v) p = careful-called (headerOf p) p (λ e. planNew e t v) refl (record { fair = new-fair t v; reach = λ d s. new-reaches p d s t v })
-careful (Get t h i) p = careful-called (headerOf p) p (λ e. planGet e t h i) refl (record { fair = get-fair t h i; reach = λ d s. get-reaches p d s t h i 0 })
-careful (Set t h i v) p = careful-called (headerOf p) p (λ e. planSet e t h i v) refl (record { fair = set-fair t h i v; reach = λ d s. set-reaches p d s t h i v })
-careful (Page t h i m) p = careful-called (headerOf p) p (λ e. planPage e t h i m) refl (record { fair = page-fair t h i m; reach = λ d s. page-reaches p d s t h i m })
-careful (Step t) p = careful-called (headerOf p) p (λ e. planStep e t) refl (record { fair = step-fair t; reach = λ d s. step-reaches p d s t })
-careful (Release h) p = careful-called (headerOf p) p (λ e. planRelease e h) refl (record { fair = release-fair h; reach = λ d s. release-reaches p d s h })
-careful (LookVersion b) p = careful-look _ p _
-careful (LookCell b i) p = careful-look _ p _
-careful (LookLog b i) p = careful-look _ p _
-careful (LookEntry b i j) p = careful-look _ p _
-careful (LookTask t) p = careful-look _ p _
-careful Report p = careful-look _ p _
+careful (Ask (Open n h t)) p = careful-open p n h t
+careful (Ask (New t v)) p = careful-called (headerOf p) p (λ e. planNew e t v) refl (record { fair = new-fair t v; reach = λ d s. new-reaches p d s t v })
+careful (Ask (Get t h i)) p = careful-called (headerOf p) p (λ e. planGet e t h i) refl (record { fair = get-fair t h i; reach = λ d s. get-reaches p d s t h i 0 })
+careful (Ask (Set t h i v)) p = careful-called (headerOf p) p (λ e. planSet e t h i v) refl (record { fair = set-fair t h i v; reach = λ d s. set-reaches p d s t h i v })
+careful (Ask (Page t h i m)) p = careful-called (headerOf p) p (λ e. planPage e t h i m) refl (record { fair = page-fair t h i m; reach = λ d s. page-reaches p d s t h i m })
+careful (Ask (Step t)) p = careful-called (headerOf p) p (λ e. planStep e t) refl (record { fair = step-fair t; reach = λ d s. step-reaches p d s t })
+careful (Ask (Release h)) p = careful-called (headerOf p) p (λ e. planRelease e h) refl (record { fair = release-fair h; reach = λ d s. release-reaches p d s h })
+careful (Ask (LookVersion b)) p = careful-look _ p _
+careful (Ask (LookCell b i)) p = careful-look _ p _
+careful (Ask (LookLog b i)) p = careful-look _ p _
+careful (Ask (LookEntry b i j)) p = careful-look _ p _
+careful (Ask (LookTask t)) p = careful-look _ p _
+careful (Ask Report) p = careful-look _ p _
+careful Check p = careful-look _ p _
 
 -- ---- what is told in the answer slice
 
@@ -171,11 +172,11 @@ pool-rest x p a d g i l =
 
 pub answer-length : AnswerLength spoken
 answer-length x p a =
-    spoken-case x p a (λ (z : Outcome). length (z .0 .1) ≡ length a) (λ _. refl) (λ e. telling-length (asked x p .1) a (ltb-false (length a) 16 e))
+    spoken-case x p a (λ (z : Outcome). length (z .0 .1) ≡ length a) (λ _. refl) (λ e. telling-length (heard x p .1) a (ltb-false (length a) 16 e))
 
 pub answer-rest : AnswerRest spoken
 answer-rest x p a j l =
-    spoken-case x p a (λ (z : Outcome). getD (z .0 .1) j 0 ≡ getD a j 0) (λ _. refl) (λ _. telling-rest (asked x p .1) a j l)
+    spoken-case x p a (λ (z : Outcome). getD (z .0 .1) j 0 ≡ getD a j 0) (λ _. refl) (λ _. telling-rest (heard x p .1) a j l)
 
 pub short-slice : ShortSlice spoken
 short-slice x p a l = spoken-short x p a (lt-ltb (length a) 16 l)
@@ -187,4 +188,4 @@ refusal-keeps x p a =
 pub refusal-zeros : RefusalZeros spoken
 refusal-zeros x p a l =
     subst⁻¹ (λ (z : Outcome). (z .1 ≡ 0 → ⊥) → (z .1 ≡ 10 → ⊥) → (j : ℕ) → j < 16 → getD (z .0 .1) j 0 ≡ 0) (spoken-long x p a (le-ltb (length a) 16 l))
-    (λ u v j m. telling-word (asked x p .1) a j m ∙ refuses-zeros (asked x p .1) (u, v) j)
+    (λ u v j m. telling-word (heard x p .1) a j m ∙ refuses-zeros (heard x p .1) (u, v) j)

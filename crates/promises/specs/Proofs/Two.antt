@@ -26,7 +26,7 @@ use Rattle.theorems.specs.Terms.{Every, HasGiven, In, IsRead, Once, byCell, cel
 use Rattle.promises.specs.Promises.{Kept, MachineAnswers, MachineHistory, MachineState, NumbersOnce, PagesJoin, PagesJoinAny, Reads, ReadsInOrder, StaysSound, Tables, diary, machineCalls, machineFirst, poolFirst}
 use Rattle.promises.specs.Proofs.Calls.{spoken-case}
 use Rattle.promises.specs.Proofs.Histories.{calls-all, heeded, noted-all, pool-all, sound-state, told-all}
-use Rattle.promises.specs.Said.{Outcome, spoken, stateIn, tellings}
+use Rattle.promises.specs.Said.{Ask, Outcome, spoken, stateIn, tellings}
 
 -- ---- an open that returned 0
 
@@ -56,7 +56,7 @@ module _ (k : Kept spoken) where
   is-open : (opens n h t (length w) ≡ true) × (poolFirst spoken k ≡ openIn w n h t .0)
   unfolding asked
   is-open =
-      spoken-case (Open n h t) w (k .slice) (λ (z : Outcome). z .1 ≡ 0 → (opens n h t (length w) ≡ true) × (z .0 .0 ≡ openIn w n h t .0))
+      spoken-case (Ask (Open n h t)) w (k .slice) (λ (z : Outcome). z .1 ≡ 0 → (opens n h t (length w) ≡ true) × (z .0 .0 ≡ openIn w n h t .0))
       (λ _ e. absurd (let z : _≡_ {A = ℕ} 15 0 = e in omega arith))
       (λ _ e. (accepts w n h t e, refl))
       (k .accepted)

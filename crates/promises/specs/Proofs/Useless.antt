@@ -1,4 +1,4 @@
--- Builds that do nothing useful, as document 01 lists them: each breaks a promise, whatever else it does.
+-- Builds that do nothing useful, as document 01 lists them, and a check that always says yes: each breaks a promise, whatever else it does.
 -- Rests on Promises and on the machine's answers to a few calls, which are computed.
 use Prim.Native.Nat.{_≤_, ℕ}
 use mathlib.Core.Bool.{false, true}
@@ -8,12 +8,16 @@ use mathlib.Core.Path.{_∙_, _≡_, ap, refl, sym}
 use native.Mathlib.Omega.{arith}
 use lib.ListN.{getD, length, length-replicate, replicate, take}
 use Rattle.bridge.specs.Asked.{Asked, Get, LookTask, New, Open, Set, Step, callOf}
+use Rattle.bridge.specs.Sound.{Sound}
 use Rattle.block.specs.Layout.{cellIx}
-use Rattle.pool.specs.Header.{sizesOf}
+use Rattle.pool.specs.declared.Header.{Header}
+use Rattle.pool.specs.declared.Header.the-variants as header
+use Rattle.pool.specs.Header.{headerOf, sizesOf}
 use Rattle.pool.specs.Parts.{part}
 use Rattle.pool.specs.Places.{blockPart}
 use Rattle.pool.specs.Pool.{lieOf}
 use Rattle.rulebook.specs.Answers.{stageCode}
+use Rattle.rulebook.specs.declared.Sizes.{Sizes}
 use Rattle.rulebook.specs.History.{Ended, run}
 use Rattle.rulebook.specs.Machine.{Call, call, lookTask}
 use Rattle.rulebook.specs.Sizes.{blockWords, controlWords, lastSerial, opens, room}
@@ -21,8 +25,9 @@ use Rattle.rulebook.specs.Starts.{Lie, begun, opened, reserve, startGet, startN
 use Rattle.rulebook.specs.State.{State, any, blockAt, cellAt, count, filling, freeBlock, freeSlot, held, inUse, listTo, liveHandle, lowest, stood, taskAt, withBlock, withCell, withLog, withSlot, withTask, withVersion}
 use Rattle.rulebook.specs.Steps.{aimed, counted, exchanged, filled, finished, getStep, gotCopy, gotGet, gotPage, moved, noRoom, probed, step, stepAt, taken}
 use Rattle.theorems.specs.Terms.{Every, In, here, more, there}
-use Rattle.promises.specs.Promises.{Kept, Promised, diary, poolFirst, poolLast}
-use Rattle.promises.specs.Said.{Build, Spoken, answerAfter, callsIn, isOpen, numberOf, poolAfter, poolAll, stateIn, tellings, toldAll, wordOf}
+use Rattle.promises.specs.Promised.{Promised}
+use Rattle.promises.specs.Promises.{Kept, diary, poolFirst, poolLast}
+use Rattle.promises.specs.Said.{Ask, Build, Check, Spoken, answerAfter, callsIn, isOpen, numberOf, poolAfter, poolAll, stateIn, tellings, toldAll, wordOf}
 use Rattle.rulebook.specs.Machine as machine
 
 -- ---- a few calls
@@ -32,7 +37,7 @@ abbrev slice : List ℕ
 slice = replicate 16 0
 
 abbrev said : Asked → Spoken
-said x = record { call = x; slice = slice }
+said x = record { call = Ask x; slice = slice }
 
 -- new 7, and n steps of its task
 abbrev making : ℕ → List Spoken
@@ -91,14 +96,14 @@ lies n h words = lieOf (sizesOf n h 1 (length (replicate {A = ℕ} words 0))) (r
 -- ---- refusing always: every open returns a number other than 0, or every other call does
 
 abbrev pub RefusingOpens : Build → Type 0
-RefusingOpens f = (n h t : ℕ) (p a : List ℕ) → numberOf f (Open n h t) p a ≡ 0 → ⊥
+RefusingOpens f = (n h t : ℕ) (p a : List ℕ) → numberOf f (Ask (Open n h t)) p a ≡ 0 → ⊥
 
 pub not-refusing-opens : (f : Build) → RefusingOpens f → Promised f → ⊥
 unfolding opens room controlWords blockWords
 not-refusing-opens f r P = r 1 1 1 (replicate 88 0) slice (P .open-due 1 1 1 (replicate 88 0) slice (omega arith) .0)
 
 abbrev pub Refusing : Build → Type 0
-Refusing f = (x : Asked) (p a : List ℕ) → isOpen x ≡ false → numberOf f x p a ≡ 0 → ⊥
+Refusing f = (x : Asked) (p a : List ℕ) → isOpen x ≡ false → numberOf f (Ask x) p a ≡ 0 → ⊥
 
 pub not-refusing : (f : Build) → Refusing f → Promised f → ⊥
 unfolding opens room controlWords blockWords toldAll callsIn callOf
@@ -108,7 +113,7 @@ not-refusing f r P =
 -- ---- one constant reply to every step
 
 abbrev pub Constant : Build → Type 0
-Constant f = (r : ℕ × List ℕ) × ((t : ℕ) (p a : List ℕ) → 16 ≤ length a → (numberOf f (Step t) p a, take 16 (answerAfter f (Step t) p a)) ≡ r)
+Constant f = (r : ℕ × List ℕ) × ((t : ℕ) (p a : List ℕ) → 16 ≤ length a → (numberOf f (Ask (Step t)) p a, take 16 (answerAfter f (Ask (Step t)) p a)) ≡ r)
 
 pub not-constant : (f : Build) → Constant f → Promised f → ⊥
 unfolding opens room controlWords blockWords toldAll callsIn callOf
@@ -125,7 +130,7 @@ not-constant f c P =
 -- ---- a step that does nothing: it leaves the pool as it was
 
 abbrev pub Idle : Build → Type 0
-Idle f = (t : ℕ) (p a : List ℕ) → poolAfter f (Step t) p a ≡ p
+Idle f = (t : ℕ) (p a : List ℕ) → poolAfter f (Ask (Step t)) p a ≡ p
 
 pub not-idle : (f : Build) → Idle f → Promised f → ⊥
 unfolding opens room controlWords blockWords poolAll callsIn callOf
@@ -181,3 +186,20 @@ every-in (more q e) (there i) = every-in e i
 
 pub not-made-up : (f : Build) → MadeUp f → Promised f → ⊥
 not-made-up f m P = m .3 (every-in (P .steps-counted (m .0)) (m .2))
+
+-- ---- a check that always says yes
+
+abbrev pub AlwaysYes : Build → Type 0
+AlwaysYes f = (p a : List ℕ) → 16 ≤ length a → wordOf (answerAfter f Check p a) 0 ≡ 0
+
+-- a pool of no words is no store
+no-store : (d : Sizes) → Sound d [] → ⊥
+unfolding headerOf
+no-store d S = let z : _≡_ {A = ℕ} 0 1 = ap good (S .header) in omega arith
+  where
+    good : Header → ℕ
+    good header.Bad = 0
+    good (header.Good c) = 1
+
+pub not-always-yes : (f : Build) → AlwaysYes f → Promised f → ⊥
+not-always-yes f c P = let s = P .check-sound [] slice (omega arith) .0 (c [] slice (omega arith)) in no-store (s .0) (s .1)
