@@ -20,3 +20,4 @@ pub mod Facts
 pub mod Paces
 pub mod Parts
 pub mod Order
+pub mod Kept
