@@ -1,7 +1,6 @@
 // Random orders of many tasks, the store beside a plain model that copies whole tables.
 mod calls;
 mod model;
-mod print;
 mod tally;
 
 use calls::Of;

@@ -1,5 +1,4 @@
 // Document 01's sessions and edges through the C functions, printed.
-mod print;
 mod tasks;
 
 use print::number;

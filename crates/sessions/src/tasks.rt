@@ -1,6 +1,6 @@
 // One call or one task at a time, from its start to its end, printed.
-use super::print::number;
-use super::print::text;
+use print::number;
+use print::text;
 
 // Word j of an answer.
 fn word(answer: &[u32], j: usize) -> u32 {
