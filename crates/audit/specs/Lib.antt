@@ -8,6 +8,7 @@ pub mod Decided
 pub mod First
 pub mod Check
 pub mod Reads
+pub mod Stands
 pub mod Logs
 pub mod Walk
 pub mod Ways

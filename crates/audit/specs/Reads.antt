@@ -79,8 +79,6 @@ module _ (d : Sizes) (p : List ℕ) (k j : ℕ) (x : Slot) (e : x ≡ slotRead (
   unfolding standsOn
   stands-not g = rw (same, ← f, g)
 
-pub ruleset stands = (stands-live, stands-not)
-
 -- ---- a search for a row
 
 module _ (f : ℕ → Bool) where
@@ -102,5 +100,3 @@ module _ (f : ℕ → Bool) where
 pub stood-is : (d : Sizes) (p : List ℕ) (k : ℕ) (r : Bool) → r ≡ someTo (standsOn d p k) (d .h) → r ≡ stood (shown d p) k
 unfolding stood standsOn
 stood-is d p k r e = e ∙ sym (any-some-to (λ (x : Slot). isLive (x .status) && eqb (x .block) k) (shown d p .slots) (freed 0) refl (d .h) (view-slots d p))
-
-pub ruleset scans = (some-start, some-on, some-stop, some-end, stood-is)

@@ -10,6 +10,7 @@ mod paces;
 mod reads;
 mod seven;
 mod slots;
+mod stands;
 mod tally;
 mod walk;
 mod writers;

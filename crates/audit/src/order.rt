@@ -3,6 +3,7 @@ use super::handles::all_apart;
 use super::handles::all_stand;
 use super::holds::all_held_once;
 use super::seven::rule_seven;
+use super::stands::mark_stood;
 use super::tally::all_few;
 use super::walk::logs_hold;
 use pool::Header;
@@ -10,19 +11,22 @@ use rulebook::Sizes;
 ghost use mathlib.Core.Path.{_≡_};
 ghost use Rattle.pool.specs.Places.{Spans};
 ghost use Rattle.audit.specs.Broken.{brokenIn, brokenLogs, brokenRows};
+ghost use Rattle.audit.specs.Stands.{Marked};
+
+const MOST_BLOCKS: usize = 256;
 
 // Rules 2 to 4: the handles and the logs of the blocks on which they stand.
-fn logs_broken(words: &[u32], d: Sizes) -> u32
-    requires { ⌜ Spans d (now words) ⌝ }
+fn logs_broken(words: &[u32], d: Sizes, stood: &[u32]) -> u32
+    requires { ⌜ Spans d (now words) × Marked d (now words) (now stood) ⌝ }
     ensures { λ r. ⌜ r ≡ brokenLogs d (now (words .entry)) ⌝ }
 {
     if !all_stand(words, d) {
         return 2;
     }
-    if !logs_hold(words, d) {
+    if !logs_hold(words, d, stood) {
         return 3;
     }
-    if !all_few(words, d) {
+    if !all_few(words, d, stood) {
         return 4;
     }
     0
@@ -49,7 +53,9 @@ pub fn check(words: &[u32]) -> u32
     let Header::Good(d) = pool::header_of(words) else {
         return 1;
     };
-    let r = logs_broken(words, d);
+    let mut stood = [1u32; MOST_BLOCKS];
+    mark_stood(words, d, &mut stood);
+    let r = logs_broken(words, d, &stood);
     if r != 0 {
         return r;
     }
@@ -57,7 +63,7 @@ pub fn check(words: &[u32]) -> u32
     if s != 0 {
         return s;
     }
-    if !rule_seven(words, d) {
+    if !rule_seven(words, d, &stood) {
         return 7;
     }
     0

@@ -1,5 +1,4 @@
 // What the walks read of a pool: a number that lies outside reads as one that no rule allows.
-use acts::tasks::is_live;
 use block::Looked;
 use block::Probed;
 use rulebook::Sizes;
@@ -7,9 +6,7 @@ ghost use mathlib.Core.Path.{_≡_};
 ghost use Prim.Native.Nat.{_<_};
 ghost use Rattle.block.specs.Words.{versionIn, lengthIn, entryIn};
 ghost use Rattle.pool.specs.Places.{Spans, blockPart};
-ghost use Rattle.rulebook.specs.State.{stood};
-ghost use Rattle.audit.specs.Rules.{shown};
-ghost use Rattle.audit.specs.Reads.{standsOn, versionSeen, lengthSeen, stampSeen};
+ghost use Rattle.audit.specs.Reads.{versionSeen, lengthSeen, stampSeen};
 
 // A version that no entry has.
 const OUTSIDE: u32 = 4294967295;
@@ -45,29 +42,4 @@ pub fn stamp_of(words: &[u32], d: Sizes, k: u32, i: u32, j: u32) -> u32
         Probed::Found(e) => e.version,
         Probed::Bad => OUTSIDE,
     }
-}
-
-// The handle in slot j is live, and stands on block k.
-fn stands_on(words: &[u32], d: Sizes, k: u32, j: u32) -> bool
-    requires { ⌜ Spans d (now words) × (j < d .h) ⌝ }
-    ensures { λ r. ⌜ r ≡ standsOn d (now (words .entry)) k j ⌝ }
-{
-    let x = pool::slot_at(words, d, j);
-    let s = x.status;
-    if is_live(s) { x.block == k } else { false }
-}
-
-// A live handle stands on block k.
-pub fn stood_on(words: &[u32], d: Sizes, k: u32) -> bool
-    requires { ⌜ Spans d (now words) ⌝ }
-    ensures { λ r. ⌜ r ≡ stood (shown d (now (words .entry))) k ⌝ }
-{
-    let mut j = 0;
-    while j < d.h {
-        if stands_on(words, d, k, j) {
-            return true;
-        }
-        j += 1;
-    }
-    false
 }

@@ -10,10 +10,11 @@ ghost use mathlib.Core.Path.{_≡_};
 ghost use Rattle.pool.specs.Places.{Spans};
 ghost use Rattle.audit.specs.Rules.{Rule2, Rule3, Rule6};
 ghost use Rattle.audit.specs.Broken.{rule7};
+ghost use Rattle.audit.specs.Stands.{Marked};
 
 // Where rules 2, 3 and 6 hold.
-pub fn rule_seven(words: &[u32], d: Sizes) -> bool
-    requires { ⌜ Spans d (now words) × Rule2 d (now words) × Rule3 d (now words) × Rule6 d (now words) ⌝ }
+pub fn rule_seven(words: &[u32], d: Sizes, stood: &[u32]) -> bool
+    requires { ⌜ Spans d (now words) × Rule2 d (now words) × Rule3 d (now words) × Rule6 d (now words) × Marked d (now words) (now stood) ⌝ }
     ensures { λ r. ⌜ r ≡ rule7 d (now (words .entry)) ⌝ }
 {
     if !slots_sound(words, d) {
@@ -28,7 +29,7 @@ pub fn rule_seven(words: &[u32], d: Sizes) -> bool
     if !tasks_done(words, d) {
         return false;
     }
-    if !blocks_laid(words, d) {
+    if !blocks_laid(words, d, stood) {
         return false;
     }
     fillers_laid(words, d)

@@ -1,5 +1,5 @@
 // Rule 7: the codes and ranges of slots, and the words of blocks on which live handles stand.
-use super::reads::stood_on;
+use super::stands::stood_on;
 use acts::SlotRow;
 use acts::tasks::is_live;
 use rulebook::Sizes;
@@ -10,6 +10,7 @@ ghost use Rattle.theorems.specs.Terms.{allTo};
 ghost use Rattle.pool.specs.Places.{Spans};
 ghost use Rattle.audit.specs.Rules.{Rule2};
 ghost use Rattle.audit.specs.Broken.{slotHolds, slotSound, laidAt};
+ghost use Rattle.audit.specs.Stands.{Marked};
 
 const LAST_SERIAL: u32 = 16777215;
 
@@ -55,23 +56,23 @@ pub fn slots_sound(words: &[u32], d: Sizes) -> bool
     true
 }
 
-fn laid_at(words: &[u32], d: Sizes, k: u32) -> bool
-    requires { ⌜ Spans d (now words) × (k < d .b) ⌝ }
+fn laid_at(words: &[u32], d: Sizes, stood: &[u32], k: u32) -> bool
+    requires { ⌜ Spans d (now words) × Marked d (now words) (now stood) × (k < d .b) ⌝ }
     ensures { λ r. ⌜ r ≡ laidAt d (now (words .entry)) k ⌝ }
 {
-    if !stood_on(words, d, k) {
+    if !stood_on(words, d, stood, k) {
         return true;
     }
     pool::laid(words, d, k)
 }
 
-pub fn blocks_laid(words: &[u32], d: Sizes) -> bool
-    requires { ⌜ Spans d (now words) ⌝ }
+pub fn blocks_laid(words: &[u32], d: Sizes, stood: &[u32]) -> bool
+    requires { ⌜ Spans d (now words) × Marked d (now words) (now stood) ⌝ }
     ensures { λ r. ⌜ r ≡ allTo (laidAt d (now (words .entry))) (d .b) ⌝ }
 {
     let mut k = 0;
     while k < d.b {
-        if !laid_at(words, d, k) {
+        if !laid_at(words, d, stood, k) {
             return false;
         }
         k += 1;

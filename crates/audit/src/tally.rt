@@ -1,7 +1,7 @@
 // Rule 4: how many entries a block has.
 use super::reads::length_of;
-use super::reads::stood_on;
 use super::reads::version_of;
+use super::stands::stood_on;
 use rulebook::Sizes;
 ghost use mathlib.Core.Path.{_≡_};
 ghost use Prim.Native.Nat.{_<_};
@@ -10,6 +10,7 @@ ghost use Rattle.theorems.specs.Terms.{entries};
 ghost use Rattle.pool.specs.Places.{Spans};
 ghost use Rattle.audit.specs.Rules.{Rule2, Rule3, shown};
 ghost use Rattle.audit.specs.Broken.{rule4At, rule4};
+ghost use Rattle.audit.specs.Stands.{Marked};
 ghost use Rattle.audit.specs.Tally.{Counts};
 
 // The entries of block k's logs together.
@@ -27,11 +28,11 @@ pub fn entries_of(words: &[u32], d: Sizes, k: u32) -> u32
     total
 }
 
-fn few_entries(words: &[u32], d: Sizes, k: u32) -> bool
-    requires { ⌜ Spans d (now words) × Rule2 d (now words) × Rule3 d (now words) × (k < d .b) ⌝ }
+fn few_entries(words: &[u32], d: Sizes, stood: &[u32], k: u32) -> bool
+    requires { ⌜ Spans d (now words) × Rule2 d (now words) × Rule3 d (now words) × Marked d (now words) (now stood) × (k < d .b) ⌝ }
     ensures { λ r. ⌜ r ≡ rule4At d (now (words .entry)) k ⌝ }
 {
-    if !stood_on(words, d, k) {
+    if !stood_on(words, d, stood, k) {
         return true;
     }
     let total = entries_of(words, d, k);
@@ -43,13 +44,13 @@ fn few_entries(words: &[u32], d: Sizes, k: u32) -> bool
 }
 
 // Rule 4, where rules 2 and 3 hold.
-pub fn all_few(words: &[u32], d: Sizes) -> bool
-    requires { ⌜ Spans d (now words) × Rule2 d (now words) × Rule3 d (now words) ⌝ }
+pub fn all_few(words: &[u32], d: Sizes, stood: &[u32]) -> bool
+    requires { ⌜ Spans d (now words) × Rule2 d (now words) × Rule3 d (now words) × Marked d (now words) (now stood) ⌝ }
     ensures { λ r. ⌜ r ≡ rule4 d (now (words .entry)) ⌝ }
 {
     let mut k = 0;
     while k < d.b {
-        if !few_entries(words, d, k) {
+        if !few_entries(words, d, stood, k) {
             return false;
         }
         k += 1;

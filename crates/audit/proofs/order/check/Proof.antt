@@ -1,4 +1,5 @@
 use Rattle.audit.specs.Order.{checks}
+use Rattle.audit.specs.Stands.{mark-start}
 use borrow.Author.Needs.{needs}
 use Rattle.audit.proofs.order.check.Statement.{statement}
 use Rattle.audit.proofs.order.check.Tie as tie
@@ -11,9 +12,13 @@ check-spec =
     (λ c. search (needs, checks))
     (λ c. search (needs, checks))
     (λ c. search (needs, checks))
+    (λ c. search (needs, checks))
+    (λ c κs. search (needs, checks, mark-start))
+    (λ c. search (needs, checks))
     (λ c κs. search (needs, checks))
     (λ c. search (needs, checks))
     (λ c κs. search (needs, checks))
+    (λ c. search (needs, checks))
     (λ c. search (needs, checks))
     (λ c κs. search (needs, checks))
     (λ c. search (needs, checks))

@@ -11,6 +11,6 @@ logs-broken-spec =
     (λ c. search (needs, orders))
     (λ c κs. search (needs, orders))
     (λ c. search (needs, orders))
-    (λ c κs. (search needs, search (needs, asked-two), asked-three _ _ _ (c .before .logs-hold .ensures) (c .if2 .left)))
+    (λ c κs. (search needs, search (needs, asked-two), asked-three _ _ _ (c .before .logs-hold .ensures) (c .if2 .left), search needs))
     (λ c. search (needs, orders))
     (λ c. search (needs, orders)))

@@ -9,10 +9,10 @@ use Rattle.audit.proofs.slots.blocks_laid.Statement.{statement}
 use Rattle.audit.proofs.slots.blocks_laid.Tie as tie
 
 abbrev Inv-loop : tie.InvT-loop
-Inv-loop words d k₀ k = (k ≤ d .b) × (allTo (laidAt d words) k ≡ true)
+Inv-loop words d stood k₀ k = (k ≤ d .b) × (allTo (laidAt d words) k ≡ true)
 
 abbrev μ-loop : tie.MeasureT-loop
-μ-loop words d k₀ k = d .b - k
+μ-loop words d stood k₀ k = d .b - k
 
 pub blocks-laid-spec : {M : Type 1} → statement M
 blocks-laid-spec =

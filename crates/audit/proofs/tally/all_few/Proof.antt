@@ -10,10 +10,10 @@ use Rattle.audit.proofs.tally.all_few.Statement.{statement}
 use Rattle.audit.proofs.tally.all_few.Tie as tie
 
 abbrev Inv-loop : tie.InvT-loop
-Inv-loop words d k₀ k = (k ≤ d .b) × (allTo (rule4At d words) k ≡ true)
+Inv-loop words d stood k₀ k = (k ≤ d .b) × (allTo (rule4At d words) k ≡ true)
 
 abbrev μ-loop : tie.MeasureT-loop
-μ-loop words d k₀ k = d .b - k
+μ-loop words d stood k₀ k = d .b - k
 
 pub all-few-spec : {M : Type 1} → statement M
 all-few-spec =
