@@ -29,16 +29,20 @@ or-true : (a : Bool) → (a || true) ≡ true
 or-true true = refl
 or-true false = refl
 
+-- block k is marked
+abbrev pub marked : List ℕ → ℕ → Bool
+marked m k = eqb (getD m k 0) 0
+
 module _ (d : Sizes) (p : List ℕ) where
   -- of the handles in the slots before j
   pub record MarkedTo (j : ℕ) (m : List ℕ) : Type 0 where
     pub sized : length m ≡ mostBlocks
-    pub met : (k : ℕ) → k < mostBlocks → eqb (getD m k 0) 0 ≡ someTo (standsOn d p k) j
+    pub met : (k : ℕ) → k < mostBlocks → marked m k ≡ someTo (standsOn d p k) j
 
   -- of all
   pub record Marked (m : List ℕ) : Type 0 where
     pub sized : length m ≡ mostBlocks
-    pub tells : (k : ℕ) → k < mostBlocks → eqb (getD m k 0) 0 ≡ stood (shown d p) k
+    pub tells : (k : ℕ) → k < mostBlocks → marked m k ≡ stood (shown d p) k
 
   pub mark-start : MarkedTo 0 (replicate mostBlocks 1)
   unfolding someTo
@@ -87,13 +91,15 @@ module _ (d : Sizes) (p : List ℕ) where
   pub mark-end : (j : ℕ) (m : List ℕ) → MarkedTo j m → j ≤ d .h → d .h ≤ j → Marked m
   mark-end j m s l o =
       let e : j ≡ d .h = omega arith in
-      record { sized = s .sized; tells = λ k i. stood-is d p k (eqb (getD m k 0) 0) (s .met k i ∙ ap (someTo (standsOn d p k)) e) }
+      record { sized = s .sized; tells = λ k i. stood-is d p k (marked m k) (s .met k i ∙ ap (someTo (standsOn d p k)) e) }
 
   module _ (m : List ℕ) (s : Marked m) (sp : Spans d p) (k : ℕ) (l : k < d .b) where
     pub marked-inside : k < length m
     marked-inside = let z = sp .blocks in omega (arith, s .sized)
 
-    pub marked-tells : eqb (getD m k 0) 0 ≡ stood (shown d p) k
-    marked-tells = let z = sp .blocks in s .tells k (omega arith)
+    pub marked-stood : (b : Bool) → b ≡ marked m k → b ≡ stood (shown d p) k
+    marked-stood b e = let z = sp .blocks in e ∙ s .tells k (omega arith)
 
-pub ruleset marks = (mark-start, mark-idle, mark-outside, mark-set, mark-inside, mark-end, marked-inside, marked-tells)
+pub ruleset marks = (mark-idle, mark-outside, mark-set, mark-inside)
+
+pub ruleset told = (marked-inside, marked-stood)

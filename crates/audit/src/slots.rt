@@ -60,7 +60,7 @@ fn laid_at(words: &[u32], d: Sizes, stood: &[u32], k: u32) -> bool
     requires { ⌜ Spans d (now words) × Marked d (now words) (now stood) × (k < d .b) ⌝ }
     ensures { λ r. ⌜ r ≡ laidAt d (now (words .entry)) k ⌝ }
 {
-    if !stood_on(words, d, stood, k) {
+    if !stood_on(stood, k) {
         return true;
     }
     pool::laid(words, d, k)

@@ -3,10 +3,9 @@ use acts::tasks::is_live;
 use rulebook::Sizes;
 ghost use mathlib.Core.Path.{_≡_};
 ghost use Prim.Native.Nat.{_+_, _<_};
+ghost use lib.ListN.{length};
 ghost use Rattle.pool.specs.Places.{Spans};
-ghost use Rattle.rulebook.specs.State.{stood};
-ghost use Rattle.audit.specs.Rules.{shown};
-ghost use Rattle.audit.specs.Stands.{Marked, MarkedTo};
+ghost use Rattle.audit.specs.Stands.{Marked, MarkedTo, marked};
 
 const MOST_BLOCKS: u32 = 256;
 
@@ -37,9 +36,9 @@ pub fn mark_stood(words: &[u32], d: Sizes, marks: &mut [u32])
 }
 
 // A live handle stands on block k.
-pub fn stood_on(words: &[u32], d: Sizes, marks: &[u32], k: u32) -> bool
-    requires { ⌜ Spans d (now words) × Marked d (now words) (now marks) × (k < d .b) ⌝ }
-    ensures { λ r. ⌜ r ≡ stood (shown d (now (words .entry))) k ⌝ }
+pub fn stood_on(marks: &[u32], k: u32) -> bool
+    requires { ⌜ k < length (now marks) ⌝ }
+    ensures { λ r. ⌜ r ≡ marked (now (marks .entry)) k ⌝ }
 {
     marks[k as usize] == 0
 }

@@ -32,7 +32,7 @@ fn few_entries(words: &[u32], d: Sizes, stood: &[u32], k: u32) -> bool
     requires { ⌜ Spans d (now words) × Rule2 d (now words) × Rule3 d (now words) × Marked d (now words) (now stood) × (k < d .b) ⌝ }
     ensures { λ r. ⌜ r ≡ rule4At d (now (words .entry)) k ⌝ }
 {
-    if !stood_on(words, d, stood, k) {
+    if !stood_on(stood, k) {
         return true;
     }
     let total = entries_of(words, d, k);

@@ -20,7 +20,7 @@ pub fn logs_hold(words: &[u32], d: Sizes, stood: &[u32]) -> bool
 {
     let mut kept = true;
     'walk: for k in 0..d.b {
-        if !stood_on(words, d, stood, k) {
+        if !stood_on(stood, k) {
             continue;
         }
         let v = version_of(words, d, k);

@@ -1,4 +1,5 @@
 use Rattle.audit.specs.Tally.{tallies}
+use Rattle.audit.specs.Stands.{told}
 use borrow.Author.Needs.{needs}
 use Rattle.audit.proofs.tally.few_entries.Statement.{statement}
 use Rattle.audit.proofs.tally.few_entries.Tie as tie
@@ -7,9 +8,9 @@ pub few-entries-spec : {M : Type 1} → statement M
 few-entries-spec =
     tie.close
     (tie.spec
-    (λ c κs. search (needs, tallies))
-    (λ c. search (needs, tallies))
-    (λ c κs. search (needs, tallies))
-    (λ c κs. search (needs, tallies))
-    (λ c. search (needs, tallies))
-    (λ c. search (needs, tallies)))
+    (λ c κs. search (needs, tallies, told))
+    (λ c. search (needs, tallies, told))
+    (λ c κs. search (needs, tallies, told))
+    (λ c κs. search (needs, tallies, told))
+    (λ c. search (needs, tallies, told))
+    (λ c. search (needs, tallies, told)))
