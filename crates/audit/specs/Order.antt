@@ -8,7 +8,6 @@ use native.Mathlib.Omega.{arith}
 use borrow.Author.Tests.{not-false, not-true}
 use Rattle.pool.specs.declared.Header.{Header}
 use Rattle.rulebook.specs.declared.Sizes.{Sizes}
-use Rattle.acts.specs.Rows.{rows}
 use Rattle.pool.specs.Header.{headerOf}
 use Rattle.pool.specs.Places.{Spans}
 use Rattle.pool.specs.Sizing.{header-spans}
