@@ -4,3 +4,4 @@ pub mod Looks
 pub mod Acted
 pub mod Ways
 pub mod Rows
+pub mod Said

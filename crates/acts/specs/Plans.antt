@@ -1,6 +1,6 @@
 -- What each call does and answers, decided from what it sees; 2 where a bad row or word is first read. The same text serves the words of a
 -- pool and the machine's state. Rests on Sight.
-use Prim.Native.Nat.{_+_, _<_, suc, zero, ℕ}
+use Prim.Native.Nat.{_+_, suc, zero, ℕ}
 use mathlib.Core.Bool.{Bool, _&&_, _||_, not}
 use lib.Dec.{eqb, leb, ltb}
 use Rattle.block.specs.declared.Looked.{Looked}
@@ -22,6 +22,7 @@ use Rattle.acts.specs.declared.Act.{Act}
 use Rattle.acts.specs.declared.Found.{Found}
 use Rattle.acts.specs.declared.Live.{Live}
 use Rattle.acts.specs.declared.Read.{Read}
+use Rattle.acts.specs.declared.Reader.{Reader}
 use Rattle.acts.specs.declared.SlotRow.{SlotRow}
 use Rattle.acts.specs.declared.TaskRow.{TaskRow}
 use Rattle.acts.specs.declared.Touch.{Touch}
@@ -30,6 +31,7 @@ use Rattle.acts.specs.declared.TaskRow.the-variants as taskrow
 use Rattle.acts.specs.declared.Found.the-variants as found
 use Rattle.acts.specs.declared.Live.the-variants as live
 use Rattle.acts.specs.declared.Read.the-variants as read
+use Rattle.acts.specs.declared.Reader.the-variants as reader
 use Rattle.acts.specs.declared.Touch.the-variants as touch
 use Rattle.acts.specs.declared.SlotChange.the-variants as slot
 use Rattle.acts.specs.declared.TaskChange.the-variants as task
@@ -208,6 +210,19 @@ planPage e t h from m = if not (eqb (readyIn e t) 0) then refused (readyIn e t) 
 
 -- ---- release
 
+-- its refusals, in their order: the handle is not live; a task names its slot
+unfoldable pub earlierOf : ℕ → ℕ → ℕ
+earlierOf n m = if eqb n 0 then m else n
+
+abbrev pub deadOf : Live → ℕ
+deadOf (live.Not m) = m
+deadOf (live.On x) = 0
+
+abbrev pub inUseOf : Found → ℕ
+inUseOf found.Bad = 2
+inUseOf (found.At t) = 11
+inUseOf found.None = 0
+
 unfoldable pub releaseAt : Found → Slot → ℕ → Act
 releaseAt found.Bad x h = refused 2
 releaseAt (found.At t) x h = refused 11
@@ -262,15 +277,6 @@ readIn reading.Length e k = readLength (e .log (k .block) (k .hand .cell)) (k .h
 readIn reading.Probe e k =
     if leb (k .hand .hi) (k .hand .lo) then read.Bad else readEntry (e .entry (k .block) (k .hand .cell) (middle (k .hand))) (k .number) (k .hand)
 
--- the cell in hand is a word's number below the last
-abbrev pub InHand : Progress → Type 0
-InHand (progress.Going r w) = Unit
-InHand (progress.Settled w) = w .cell < 4294967295
-
-abbrev pub CellRead : Read → Type 0
-CellRead read.Bad = Unit
-CellRead (read.Got p) = InHand p
-
 -- ---- what it means for a get, a page and a copy
 
 unfoldable pub getGoes : Read → ℕ → Task → Act
@@ -293,6 +299,17 @@ unfoldable pub copyGoes : Read → ℕ → Task → Act
 copyGoes read.Bad t k = refused 2
 copyGoes (read.Got (progress.Going r w)) t k = goes touch.Nothing t (moved k (stage.Copying r) w) reply.Quiet
 copyGoes (read.Got (progress.Settled w)) t k = goes touch.Nothing t (moved k stage.FillCopy w) reply.Quiet
+
+-- whoever reads: its stage, and what its reading means for it
+abbrev pub stageFor : Reader → Reading → Stage
+stageFor reader.Get r = stage.Getting r
+stageFor reader.Copy r = stage.Copying r
+stageFor reader.Page r = stage.Paging r
+
+unfoldable pub goesOn : Reader → Read → ℕ → Task → Act
+goesOn reader.Get x t k = getGoes x t k
+goesOn reader.Copy x t k = copyGoes x t k
+goesOn reader.Page x t k = pageGoes x t k
 
 -- ---- the other stages
 

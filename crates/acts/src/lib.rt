@@ -1,14 +1,15 @@
-// What a call does to the store, as a value: it is decided from what was read, and then done in one place.
+// What a call reads of a store and does to it, as values; and the rule book's changes of tasks, slots and the get in hand.
 pub mod reading;
 pub mod searches;
-pub mod stages;
 pub mod starts;
 pub mod tasks;
+pub mod words;
 
 use rulebook::Entry;
 use rulebook::Progress;
 use rulebook::Reply;
 use rulebook::Slot;
+use rulebook::Stage;
 use rulebook::Task;
 
 // A row as it was read: a number in it lies outside its range, or it is a slot or a task.
@@ -20,6 +21,12 @@ pub enum SlotRow {
 pub enum TaskRow {
     Bad,
     Row(Task),
+}
+
+// A task's stage as it was read, or that its row is bad.
+pub enum StageRow {
+    Bad,
+    At(Stage),
 }
 
 // What a search of rows has come to: a bad row, a place, or nothing yet.
@@ -45,6 +52,26 @@ pub enum Live {
 pub enum Read {
     Bad,
     Got(Progress),
+}
+
+// Who reads a cell by the steps of a get.
+pub enum Reader {
+    Get,
+    Copy,
+    Page,
+}
+
+// An answer as C reads it: the refusal number, and its numbers in their order.
+pub struct Said {
+    pub refusal: u32,
+    pub first: u32,
+    pub second: u32,
+    pub third: u32,
+    pub fourth: u32,
+    pub fifth: u32,
+    pub sixth: u32,
+    pub seventh: u32,
+    pub eighth: u32,
 }
 
 // What is done to one block.
@@ -77,49 +104,4 @@ pub struct Act {
     pub slot: SlotChange,
     pub task: TaskChange,
     pub reply: Reply,
-}
-
-ghost use mathlib.Core.Path.{_≡_};
-ghost use Rattle.acts.specs.Plans.{answers, refused, goes, ends};
-
-// Nothing is done.
-pub fn answers(r: Reply) -> Act
-    ensures { λ a. ⌜ a ≡ answers r ⌝ }
-{
-    Act {
-        touch: Touch::Nothing,
-        slot: SlotChange::Same,
-        task: TaskChange::Same,
-        reply: r,
-    }
-}
-
-pub fn refused(n: u32) -> Act
-    ensures { λ a. ⌜ a ≡ refused n ⌝ }
-{
-    answers(Reply::Refused(n))
-}
-
-// One block is touched, and task t becomes k.
-pub fn goes(x: Touch, t: u32, k: Task, r: Reply) -> Act
-    ensures { λ a. ⌜ a ≡ goes x t k r ⌝ }
-{
-    Act {
-        touch: x,
-        slot: SlotChange::Same,
-        task: TaskChange::To(t, k),
-        reply: r,
-    }
-}
-
-// And slot j becomes y.
-pub fn ends(x: Touch, j: u32, y: Slot, t: u32, k: Task, r: Reply) -> Act
-    ensures { λ a. ⌜ a ≡ ends x j y t k r ⌝ }
-{
-    Act {
-        touch: x,
-        slot: SlotChange::To(j, y),
-        task: TaskChange::To(t, k),
-        reply: r,
-    }
 }

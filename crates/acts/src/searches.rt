@@ -5,7 +5,6 @@ use super::Live;
 use super::SlotRow;
 use super::TaskRow;
 use super::tasks::fills_block;
-use super::tasks::is_busy;
 use super::tasks::is_free;
 use super::tasks::is_live;
 use super::tasks::names_handle;
@@ -20,7 +19,7 @@ ghost use Prim.Native.Nat.{_<_, _/_};
 ghost use lib.Dec.{ltb, eqb};
 ghost use Rattle.rulebook.specs.Sizes.{lastSerial, serialOf};
 ghost use Rattle.rulebook.specs.State.{isLive, isFree, names, fills};
-ghost use Rattle.acts.specs.Plans.{foundIf, standing, vacant, naming, filler, unheld, readyRow, liveRow};
+ghost use Rattle.acts.specs.Plans.{foundIf, standing, vacant, naming, filler, unheld, liveRow, earlierOf, deadOf, inUseOf};
 ghost use Rattle.acts.specs.Looks.{shows, showsEntry, unseen, seesRow, plus, liveAt, reports};
 ghost use Rattle.acts.specs.Rows.{isNone, CountBelow};
 
@@ -153,18 +152,6 @@ pub fn unheld(x: Found, b: u32) -> Found
 
 // ---- before a start
 
-pub fn ready_row(x: TaskRow) -> u32
-    ensures { λ r. ⌜ r ≡ readyRow x ⌝ }
-{
-    match x {
-        TaskRow::Bad => 2,
-        TaskRow::Row(k) => {
-            let g = k.stage;
-            if is_busy(g) { 5 } else { 0 }
-        }
-    }
-}
-
 fn carries(x: Slot, h: u32) -> bool
     ensures { λ r. ⌜ r ≡ isLive (x .status) && eqb (x .serial) (serialOf h) ⌝ }
 {
@@ -190,6 +177,43 @@ pub fn live_row(x: SlotRow, h: u32) -> Live
             }
         }
     }
+}
+
+// ---- before a release
+
+// The earlier of two refusals; 0 where there is neither.
+fn earlier(n: u32, m: u32) -> u32
+    ensures { λ r. ⌜ r ≡ earlierOf n m ⌝ }
+{
+    if n == 0 { m } else { n }
+}
+
+// 7, or 2, where the handle is not live.
+fn dead(x: Live) -> u32
+    ensures { λ r. ⌜ r ≡ deadOf x ⌝ }
+{
+    match x {
+        Live::Not(m) => m,
+        Live::On(_) => 0,
+    }
+}
+
+// 11, or 2, where a task names its slot.
+fn in_use(z: Found) -> u32
+    ensures { λ r. ⌜ r ≡ inUseOf z ⌝ }
+{
+    match z {
+        Found::Bad => 2,
+        Found::At(_) => 11,
+        Found::None => 0,
+    }
+}
+
+// A release's refusal; 0 where there is none.
+pub fn release_refusal(x: Live, z: Found) -> u32
+    ensures { λ r. ⌜ r ≡ earlierOf (deadOf x) (inUseOf z) ⌝ }
+{
+    earlier(dead(x), in_use(z))
 }
 
 // ---- looks

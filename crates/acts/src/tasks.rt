@@ -1,5 +1,7 @@
 // Tasks, slots and the get in hand, as the rule book changes them.
+use super::Reader;
 use rulebook::Hand;
+use rulebook::Reading;
 use rulebook::Slot;
 use rulebook::Stage;
 use rulebook::Status;
@@ -8,7 +10,7 @@ ghost use mathlib.Core.Path.{_≡_};
 ghost use Prim.Native.Nat.{_<_};
 ghost use Rattle.rulebook.specs.State.{freed, handOf, idle, isLive, isFree, busy, names, fills};
 ghost use Rattle.rulebook.specs.Steps.{moved, aimed, counted, answer, guessed, searching};
-ghost use Rattle.acts.specs.Plans.{reservedAs};
+ghost use Rattle.acts.specs.Plans.{reservedAs, stageFor};
 
 // A get of cell i that has read nothing.
 pub fn hand_of(i: u32) -> Hand
@@ -80,6 +82,17 @@ pub fn counted(k: Task) -> Task
     let mut r = k;
     r.steps = k.steps + 1;
     r
+}
+
+// The stage at which o reads r.
+pub fn stage_for(o: Reader, r: Reading) -> Stage
+    ensures { λ g. ⌜ g ≡ stageFor o r ⌝ }
+{
+    match o {
+        Reader::Get => Stage::Getting(r),
+        Reader::Copy => Stage::Copying(r),
+        Reader::Page => Stage::Paging(r),
+    }
 }
 
 // The get has read its guess.

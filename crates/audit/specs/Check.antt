@@ -10,11 +10,11 @@ use Rattle.bridge.specs.Sound.{Sound}
 use Rattle.pool.specs.Header.{headerOf}
 use Rattle.pool.specs.Places.{Spans}
 use Rattle.pool.specs.Sizing.{header-spans}
-use Rattle.audit.specs.Broken.{brokenIn, brokenOf, brokenUnder, rule2, rule3, rule4, rule5, rule6, rule7}
-use Rattle.audit.specs.Decided.{decides-2, decides-3, decides-4, decides-5, decides-6, decides-7}
+use Rattle.survey.specs.Broken.{brokenIn, brokenOf, brokenUnder, rule2, rule3, rule4, rule5, rule6, rule7}
+use Rattle.survey.specs.Decided.{decides-2, decides-3, decides-4, decides-5, decides-6, decides-7}
 use Rattle.audit.specs.First.{First, first-all, first-before, first-broken, first-end, first-least, first-next, first-one, first-zero, ruleOf}
-use Rattle.audit.specs.Rules.{Rule1, Rule2, Rule3, Rule4, Rule5, Rule6, Rule7}
-use Rattle.audit.specs.Whole.{header-one, one-header, rest-sound, sound-rest}
+use Rattle.survey.specs.Rules.{Rule1, Rule2, Rule3, Rule4, Rule5, Rule6, Rule7}
+use Rattle.survey.specs.Whole.{header-one, one-header, rest-sound, sound-rest}
 use Rattle.pool.specs.declared.Header.the-variants as header
 
 -- rules 2 to 7 of a pool whose header gives the sizes d

@@ -19,10 +19,10 @@ use Rattle.pool.specs.Rows.{slotRead, taskRead}
 use Rattle.rulebook.specs.Sizes.{lastSerial}
 use Rattle.rulebook.specs.State.{names}
 use Rattle.rules.specs.Paced.{Paced, TaskRange}
-use Rattle.audit.specs.Broken.{factsAt, fillsTo, getsIn, interior, onCell, onHand, taskHolds, toAppend, toWrite, unspent}
-use Rattle.audit.specs.Reads.{versionSeen}
-use Rattle.audit.specs.Rules.{Readable, Rule3, Rule6, shown, task}
-use Rattle.audit.specs.Ways.{slot-as, task-as, version-here}
+use Rattle.survey.specs.Broken.{factsAt, fillsTo, getsIn, interior, onCell, onHand, taskHolds, toAppend, toWrite, unspent}
+use Rattle.survey.specs.Reads.{versionSeen}
+use Rattle.survey.specs.Rules.{Readable, Rule3, Rule6, shown, task}
+use Rattle.survey.specs.Ways.{slot-as, task-as, version-here}
 use Rattle.rulebook.specs.declared.Stage.the-variants as stage
 
 -- ---- tests in a row, the last of which is left

@@ -21,11 +21,11 @@ use Rattle.pool.specs.View.{view-block-at}
 use Rattle.rulebook.specs.State.{Block, fills, logAt}
 use Rattle.rules.specs.Paced.{Paced, TaskRange}
 use Rattle.rules.specs.Rules.{Fills, TaskRule}
-use Rattle.audit.specs.Broken.{fillingAt, fillingIn}
-use Rattle.audit.specs.Decide.{decide-as, decide-eq, same}
-use Rattle.audit.specs.DecideBlocks.{filling-decides}
-use Rattle.audit.specs.Rules.{shown, task}
-use Rattle.audit.specs.Ways.{task-as}
+use Rattle.survey.specs.Broken.{fillingAt, fillingIn}
+use Rattle.survey.specs.Decide.{decide-as, decide-eq, same}
+use Rattle.survey.specs.DecideBlocks.{filling-decides}
+use Rattle.survey.specs.Rules.{shown, task}
+use Rattle.survey.specs.Ways.{task-as}
 use Rattle.rulebook.specs.declared.Stage.the-variants as stage
 
 module _ (d : Sizes) (p : List ℕ) where

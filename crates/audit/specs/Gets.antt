@@ -23,9 +23,9 @@ use Rattle.pool.specs.Pool.{viewOf}
 use Rattle.pool.specs.View.{view-block-at}
 use Rattle.rulebook.specs.State.{Block, blockAt, logAt}
 use Rattle.theorems.specs.Terms.{allTo, versionAt}
-use Rattle.audit.specs.Broken.{getsIn, seeksIn}
-use Rattle.audit.specs.Reads.{lengthSeen, stampSeen}
-use Rattle.audit.specs.Rules.{Readable, shown}
+use Rattle.survey.specs.Broken.{getsIn, seeksIn}
+use Rattle.survey.specs.Reads.{lengthSeen, stampSeen}
+use Rattle.survey.specs.Rules.{Readable, shown}
 use Rattle.block.specs.declared.Looked.the-variants as looked
 use Rattle.rulebook.specs.declared.Reading.the-variants as reading
 

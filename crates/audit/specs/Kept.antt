@@ -9,7 +9,7 @@ use Rattle.bridge.specs.Asked.{Asked, asked, askedAll}
 use Rattle.bridge.specs.Bridge.{bridge, kept}
 use Rattle.pool.specs.Pool.{openIn}
 use Rattle.rulebook.specs.Sizes.{opens}
-use Rattle.audit.specs.Broken.{brokenIn}
+use Rattle.survey.specs.Broken.{brokenIn}
 use Rattle.audit.specs.Check.{passes-sound, sound-passes}
 
 -- any words, an accepted open, and then any list of calls

@@ -22,13 +22,13 @@ use Rattle.pool.specs.View.{view-block-at, view-block-logs}
 use Rattle.rulebook.specs.State.{Block, blockAt, logAt}
 use Rattle.rulebook.specs.Tests.{by-test}
 use Rattle.theorems.specs.Terms.{allTo, entries, versionAt}
-use Rattle.audit.specs.Broken.{allBelow, everyEntry, fillsTo, toAppend, toWrite}
-use Rattle.audit.specs.Decide.{_implies_, someTo}
-use Rattle.audit.specs.Logs.{stampOf}
-use Rattle.audit.specs.Reads.{lengthSeen, outside, some-end, some-on, some-start, some-stop, stampSeen, versionSeen}
-use Rattle.audit.specs.Rules.{Readable, shown}
-use Rattle.audit.specs.Tally.{Counts, counts-spans, length-is, length-reads}
-use Rattle.audit.specs.Ways.{all-end, all-on, all-start, all-stop, version-here}
+use Rattle.survey.specs.Broken.{allBelow, everyEntry, fillsTo, toAppend, toWrite}
+use Rattle.survey.specs.Decide.{_implies_, someTo}
+use Rattle.survey.specs.Logs.{stampOf}
+use Rattle.survey.specs.Reads.{lengthSeen, outside, some-end, some-on, some-start, some-stop, stampSeen, versionSeen}
+use Rattle.survey.specs.Rules.{Readable, shown}
+use Rattle.survey.specs.Tally.{Counts, counts-spans, length-is, length-reads}
+use Rattle.survey.specs.Ways.{all-end, all-on, all-start, all-stop, version-here}
 
 -- ---- what is asked of the logs of block k, whose cell i has this log
 

@@ -12,9 +12,9 @@ use Rattle.pool.specs.Header.{headerOf}
 use Rattle.pool.specs.Places.{Spans}
 use Rattle.pool.specs.Sizing.{header-spans}
 use Rattle.rulebook.specs.Sizes.{if_then_else_}
-use Rattle.audit.specs.Broken.{brokenIn, brokenLogs, brokenOf, brokenRows, brokenUnder, rule2, rule3, rule4, rule5, rule6, rule7}
-use Rattle.audit.specs.Decided.{decides-2, decides-3, decides-6}
-use Rattle.audit.specs.Rules.{Rule2, Rule3, Rule6}
+use Rattle.survey.specs.Broken.{brokenIn, brokenLogs, brokenOf, brokenRows, brokenUnder, rule2, rule3, rule4, rule5, rule6, rule7}
+use Rattle.survey.specs.Decided.{decides-2, decides-3, decides-6}
+use Rattle.survey.specs.Rules.{Rule2, Rule3, Rule6}
 use Rattle.pool.specs.declared.Header.the-variants as header
 
 module _ (d : Sizes) (p : List ℕ) (a : Bool) (e : a ≡ rule2 d p) where

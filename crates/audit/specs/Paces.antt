@@ -28,9 +28,9 @@ use Rattle.rulebook.specs.Tests.{by-test}
 use Rattle.rules.specs.Paced.{TaskRange, copySteps, digits-few, product-few, steps-few}
 use Rattle.theorems.specs.Prices.Digits.{digits-half, leftOf}
 use Rattle.theorems.specs.Terms.{digits, digitsIn}
-use Rattle.audit.specs.Broken.{bareHand, bareTask, paceHolds, rangeHolds, taskSound}
-use Rattle.audit.specs.DecideTasks.{range-decides}
-use Rattle.audit.specs.Rules.{task}
+use Rattle.survey.specs.Broken.{bareHand, bareTask, paceHolds, rangeHolds, taskSound}
+use Rattle.survey.specs.DecideTasks.{range-decides}
+use Rattle.survey.specs.Rules.{task}
 use Rattle.acts.specs.declared.TaskRow.the-variants as taskrow
 use Rattle.rulebook.specs.declared.Reading.the-variants as reading
 use Rattle.rulebook.specs.declared.Stage.the-variants as stage

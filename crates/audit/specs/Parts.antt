@@ -10,11 +10,11 @@ use Rattle.pool.specs.Places.{Spans}
 use Rattle.pool.specs.Pool.{viewOf}
 use Rattle.rules.specs.Paced.{Paced}
 use Rattle.theorems.specs.Terms.{allTo}
-use Rattle.audit.specs.Broken.{factsAt, fillingAt, laidAt, rule7, slotSound, taskSound, writerAt}
-use Rattle.audit.specs.Decided.{facts-decide, rows-decide, slots-decide}
+use Rattle.survey.specs.Broken.{factsAt, fillingAt, laidAt, rule7, slotSound, taskSound, writerAt}
+use Rattle.survey.specs.Decided.{facts-decide, rows-decide, slots-decide}
 use Rattle.audit.specs.Facts.{Known}
 use Rattle.audit.specs.Fillers.{Facts}
-use Rattle.audit.specs.Rules.{Rule3, Rule6, shown}
+use Rattle.survey.specs.Rules.{Rule3, Rule6, shown}
 
 module _ (d : Sizes) (p : List ℕ) (a : Bool) (e : a ≡ allTo (slotSound d p) (d .h)) where
   pub part-slots : not a ≡ true → false ≡ rule7 d p

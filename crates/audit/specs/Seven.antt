@@ -25,13 +25,13 @@ use Rattle.rulebook.specs.State.{isLive, stood, writes}
 use Rattle.rulebook.specs.Tests.{by-test}
 use Rattle.rules.specs.Paced.{Paced, SlotRange, TaskRange}
 use Rattle.theorems.specs.Terms.{allTo}
-use Rattle.audit.specs.Broken.{laidAt, laidIn, notAbove, slotHolds, slotSound, writerApart, writerAt}
-use Rattle.audit.specs.Decide.{same}
-use Rattle.audit.specs.DecideBlocks.{laid-decides}
-use Rattle.audit.specs.DecideTasks.{live-decides, slot-decides}
-use Rattle.audit.specs.Reads.{versionSeen}
-use Rattle.audit.specs.Rules.{Lives, Rule2, shown, slot}
-use Rattle.audit.specs.Ways.{slot-as, task-as, version-here}
+use Rattle.survey.specs.Broken.{laidAt, laidIn, notAbove, slotHolds, slotSound, writerApart, writerAt}
+use Rattle.survey.specs.Decide.{same}
+use Rattle.survey.specs.DecideBlocks.{laid-decides}
+use Rattle.survey.specs.DecideTasks.{live-decides, slot-decides}
+use Rattle.survey.specs.Reads.{versionSeen}
+use Rattle.survey.specs.Rules.{Lives, Rule2, shown, slot}
+use Rattle.survey.specs.Ways.{slot-as, task-as, version-here}
 use Rattle.acts.specs.declared.SlotRow.the-variants as slotrow
 use Rattle.rulebook.specs.declared.Status.the-variants as status
 

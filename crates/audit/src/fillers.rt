@@ -4,7 +4,7 @@ use rulebook::Sizes;
 ghost use mathlib.Core.Path.{_≡_};
 ghost use Prim.Native.Nat.{_<_};
 ghost use Rattle.theorems.specs.Terms.{allTo};
-ghost use Rattle.audit.specs.Broken.{fillingAt};
+ghost use Rattle.survey.specs.Broken.{fillingAt};
 ghost use Rattle.audit.specs.Fillers.{Facts};
 
 fn filling_at(words: &[u32], d: Sizes, t: u32) -> bool

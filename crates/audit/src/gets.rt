@@ -1,16 +1,16 @@
 // Rule 7: what a task that reads has in hand.
-use super::reads::length_of;
-use super::reads::stamp_of;
 use rulebook::Reading;
 use rulebook::Sizes;
 use rulebook::Task;
+use survey::reads::length_of;
+use survey::reads::stamp_of;
 ghost use mathlib.Core.Path.{_≡_};
 ghost use Prim.Native.Nat.{_<_, _≤_};
 ghost use lib.ListN.{length};
 ghost use Rattle.theorems.specs.Terms.{allTo};
 ghost use Rattle.pool.specs.Places.{Spans, blockPart};
-ghost use Rattle.audit.specs.Rules.{Readable, shown};
-ghost use Rattle.audit.specs.Broken.{getsIn, seeksIn};
+ghost use Rattle.survey.specs.Rules.{Readable, shown};
+ghost use Rattle.survey.specs.Broken.{getsIn, seeksIn};
 ghost use Rattle.audit.specs.Gets.{Log, candidateIn, logIn, olderIn};
 
 // Entry j of the log of cell i of block k is older than l.

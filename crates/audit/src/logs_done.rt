@@ -1,18 +1,18 @@
 // Rule 7: what a set in place and a task that fills have done.
-use super::reads::length_of;
-use super::reads::stamp_of;
-use super::reads::version_of;
-use super::tally::entries_of;
 use rulebook::Sizes;
 use rulebook::Task;
+use survey::reads::length_of;
+use survey::reads::stamp_of;
+use survey::reads::version_of;
+use survey::tally::entries_of;
 ghost use mathlib.Core.Path.{_≡_};
 ghost use Prim.Native.Nat.{_<_, _≤_};
 ghost use Rattle.rulebook.specs.State.{blockAt};
 ghost use Rattle.theorems.specs.Terms.{allTo};
 ghost use Rattle.pool.specs.Places.{Spans, blockPart};
-ghost use Rattle.audit.specs.Rules.{Readable, shown};
-ghost use Rattle.audit.specs.Broken.{allBelow, fillsTo, toAppend, toWrite};
-ghost use Rattle.audit.specs.Tally.{Counts};
+ghost use Rattle.survey.specs.Rules.{Readable, shown};
+ghost use Rattle.survey.specs.Broken.{allBelow, fillsTo, toAppend, toWrite};
+ghost use Rattle.survey.specs.Tally.{Counts};
 ghost use Rattle.audit.specs.LogsDone.{emptyAt, cellBelow, otherBelow, cellFrom};
 
 // ---- a block that is filled

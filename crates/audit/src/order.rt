@@ -1,17 +1,17 @@
 // The rules in their order.
-use super::handles::all_apart;
-use super::handles::all_stand;
-use super::holds::all_held_once;
 use super::seven::rule_seven;
-use super::stands::mark_stood;
-use super::tally::all_few;
-use super::walk::logs_hold;
 use pool::Header;
 use rulebook::Sizes;
+use survey::handles::all_apart;
+use survey::handles::all_stand;
+use survey::holds::all_held_once;
+use survey::stands::mark_stood;
+use survey::tally::all_few;
+use survey::walk::logs_hold;
 ghost use mathlib.Core.Path.{_≡_};
 ghost use Rattle.pool.specs.Places.{Spans};
-ghost use Rattle.audit.specs.Broken.{brokenIn, brokenLogs, brokenRows};
-ghost use Rattle.audit.specs.Stands.{Marked};
+ghost use Rattle.survey.specs.Broken.{brokenIn, brokenLogs, brokenRows};
+ghost use Rattle.survey.specs.Stands.{Marked};
 
 const MOST_BLOCKS: usize = 256;
 

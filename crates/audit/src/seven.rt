@@ -8,9 +8,9 @@ use super::writers::writers_hold;
 use rulebook::Sizes;
 ghost use mathlib.Core.Path.{_≡_};
 ghost use Rattle.pool.specs.Places.{Spans};
-ghost use Rattle.audit.specs.Rules.{Rule2, Rule3, Rule6};
-ghost use Rattle.audit.specs.Broken.{rule7};
-ghost use Rattle.audit.specs.Stands.{Marked};
+ghost use Rattle.survey.specs.Rules.{Rule2, Rule3, Rule6};
+ghost use Rattle.survey.specs.Broken.{rule7};
+ghost use Rattle.survey.specs.Stands.{Marked};
 
 // Where rules 2, 3 and 6 hold.
 pub fn rule_seven(words: &[u32], d: Sizes, stood: &[u32]) -> bool

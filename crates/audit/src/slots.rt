@@ -1,16 +1,16 @@
 // Rule 7: the codes and ranges of slots, and the words of blocks on which live handles stand.
-use super::stands::stood_on;
 use acts::SlotRow;
 use acts::tasks::is_live;
 use rulebook::Sizes;
 use rulebook::Slot;
+use survey::stands::stood_on;
 ghost use mathlib.Core.Path.{_≡_};
 ghost use Prim.Native.Nat.{_<_};
 ghost use Rattle.theorems.specs.Terms.{allTo};
 ghost use Rattle.pool.specs.Places.{Spans};
-ghost use Rattle.audit.specs.Rules.{Rule2};
-ghost use Rattle.audit.specs.Broken.{slotHolds, slotSound, laidAt};
-ghost use Rattle.audit.specs.Stands.{Marked};
+ghost use Rattle.survey.specs.Rules.{Rule2};
+ghost use Rattle.survey.specs.Broken.{slotHolds, slotSound, laidAt};
+ghost use Rattle.survey.specs.Stands.{Marked};
 
 const LAST_SERIAL: u32 = 16777215;
 

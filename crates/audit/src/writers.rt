@@ -1,17 +1,17 @@
 // Rule 7: sets in place, past their exchange.
-use super::reads::version_of;
 use acts::tasks::is_live;
 use rulebook::Sizes;
 use rulebook::Stage;
 use rulebook::Task;
+use survey::reads::version_of;
 ghost use mathlib.Core.Path.{_≡_};
 ghost use Prim.Native.Nat.{_<_};
 ghost use Rattle.rulebook.specs.State.{writes};
 ghost use Rattle.theorems.specs.Terms.{allTo};
 ghost use Rattle.rules.specs.Paced.{Paced};
 ghost use Rattle.pool.specs.Places.{Spans};
-ghost use Rattle.audit.specs.Rules.{shown};
-ghost use Rattle.audit.specs.Broken.{writerApart, notAbove, writerAt};
+ghost use Rattle.survey.specs.Rules.{shown};
+ghost use Rattle.survey.specs.Broken.{writerApart, notAbove, writerAt};
 
 // The task is a set in place, past its exchange.
 fn writes_in_place(g: Stage) -> bool

@@ -1,7 +1,6 @@
 // The check on a store that it passes, and on copies of it in which each rule in turn is broken.
 use print::number;
 use print::text;
-use rulebook::Reply;
 
 // Where the words of a store of 2 cells, 4 handles and 2 tasks lie.
 const SLOT_0: usize = 16;
@@ -18,37 +17,39 @@ const DIRECTORY: usize = 116;
 
 const ARENA: usize = 142;
 
-// The handle that a new or a set has made.
-fn made(r: Reply) -> u32 {
-    let Reply::Made(_, h) = r else {
-        return 0;
-    };
-    h
+fn two_steps(words: &mut [u32]) {
+    store::step(words, 0);
+    store::step(words, 0);
 }
 
-// A new of task 0 takes N + 1 steps.
+// A new of task 0 takes N + 1 steps; the third number of its answer is the handle.
 fn new(words: &mut [u32], value: u32) -> u32 {
     store::start_new(words, 0, value);
-    store::step(words, 0);
-    store::step(words, 0);
-    made(store::step(words, 0))
+    two_steps(words);
+    let made = store::step(words, 0);
+    made.third
 }
 
 // A set in place takes 4.
 fn set(words: &mut [u32], handle: u32, value: u32) -> u32 {
     store::start_set(words, 0, handle, 0, value);
+    two_steps(words);
     store::step(words, 0);
-    store::step(words, 0);
-    store::step(words, 0);
-    made(store::step(words, 0))
+    let made = store::step(words, 0);
+    made.third
 }
 
-// One log has two entries, two handles are live on the block, and a get has begun.
-fn fill(words: &mut [u32]) {
+fn open(words: &mut [u32]) -> u32 {
     store::open(words, 2, 4, 2);
     let a = new(words, 7);
     let b = set(words, a, 9);
     store::release(words, a);
+    b
+}
+
+// One log has two entries, two handles are live on the block, and a get has begun.
+fn fill(words: &mut [u32]) {
+    let b = open(words);
     let c = set(words, b, 4);
     store::start_get(words, 1, c, 0);
 }

@@ -136,44 +136,20 @@ fn orders(pool: &mut [u32], of: Of, seed: u32) {
     run(pool, of, seed);
 }
 
+fn of(cells: u32, handles: u32, tasks: u32) -> Of {
+    Of {
+        cells,
+        handles,
+        tasks,
+    }
+}
+
 fn main() {
     let mut a = [7u32; 208];
     let mut b = [7u32; 1000];
     let mut c = [7u32; 3600];
-    orders(
-        &mut a,
-        Of {
-            cells: 2,
-            handles: 4,
-            tasks: 2,
-        },
-        1,
-    );
-    orders(
-        &mut b,
-        Of {
-            cells: 5,
-            handles: 12,
-            tasks: 4,
-        },
-        2,
-    );
-    orders(
-        &mut c,
-        Of {
-            cells: 16,
-            handles: 16,
-            tasks: 16,
-        },
-        3,
-    );
-    orders(
-        &mut a,
-        Of {
-            cells: 1,
-            handles: 2,
-            tasks: 2,
-        },
-        4,
-    );
+    orders(&mut a, of(2, 4, 2), 1);
+    orders(&mut b, of(5, 12, 4), 2);
+    orders(&mut c, of(16, 16, 16), 3);
+    orders(&mut a, of(1, 2, 2), 4);
 }

@@ -12,6 +12,8 @@ use Rattle.rulebook.specs.declared.Stage.{Stage}
 use Rattle.rulebook.specs.declared.Stage.the-variants as stage
 use Rattle.rulebook.specs.declared.Status.{Status}
 use Rattle.rulebook.specs.declared.Status.the-variants as status
+use Rattle.acts.specs.declared.StageRow.{StageRow}
+use Rattle.acts.specs.declared.StageRow.the-variants as stagerow
 
 unfoldable pub codeOf : Stage → ℕ
 codeOf g = 12 * operation g + stageCode g
@@ -43,6 +45,10 @@ stageFrom c = stageOf (c / 12) (c % 12)
 -- c is the code of a stage
 unfoldable pub isCode : ℕ → Bool
 isCode c = eqb (codeOf (stageFrom c)) c
+
+-- the stage whose code is c, or bad
+unfoldable pub stageCoded : ℕ → StageRow
+stageCoded c = if isCode c then stagerow.At (stageFrom c) else stagerow.Bad
 
 abbrev pub statusCode : Status → ℕ
 statusCode status.Free = 0

@@ -1,5 +1,6 @@
 pub mod Parts
 pub mod Codes
+pub mod Coding
 pub mod Rows
 pub mod Places
 pub mod Header

@@ -14,6 +14,8 @@ use Rattle.acts.specs.declared.SlotRow.{SlotRow}
 use Rattle.acts.specs.declared.SlotRow.the-variants as slotrow
 use Rattle.acts.specs.declared.TaskRow.{TaskRow}
 use Rattle.acts.specs.declared.TaskRow.the-variants as taskrow
+use Rattle.acts.specs.declared.StageRow.{StageRow}
+use Rattle.acts.specs.declared.StageRow.the-variants as stagerow
 use Rattle.pool.specs.Codes.{codeOf, stageFrom, isCode, statusCode, statusFrom}
 
 -- ---- a handle row
@@ -91,6 +93,11 @@ taskFits d k = standsIn d k && worksIn d k
 
 unfoldable pub taskRowOf : Sizes → List ℕ → TaskRow
 taskRowOf d w = if isCode (getD w 0 0) && taskFits d (taskRead w) then taskrow.Row (taskRead w) else taskrow.Bad
+
+-- its stage
+abbrev pub stageSeen : TaskRow → StageRow
+stageSeen taskrow.Bad = stagerow.Bad
+stageSeen (taskrow.Row k) = stagerow.At (k .stage)
 
 -- ---- what the tests say
 

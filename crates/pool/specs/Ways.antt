@@ -1,8 +1,8 @@
 -- What each way out of a function on the header or on a row owes, with the premises as the code's tests and calls give them: rules for the
 -- proofs of the functions. Rests on Header and Rows.
 use Prim.Native.Nat.{ℕ, _+_, _-_, _/_, _≤_, _<_, min}
-use mathlib.Core.Path.{_≡_, sym, ap, ap₂, _∙_}
-use mathlib.Core.Bool.{Bool, true, false, not}
+use mathlib.Core.Path.{_≡_, refl, sym, ap, ap₂, _∙_}
+use mathlib.Core.Bool.{Bool, true, false, not, _&&_}
 use mathlib.Core.List.{List, [], _∷_, _++_}
 use native.Mathlib.Nat.{min-eq-left, min-eq-right}
 use native.Mathlib.Omega.{arith}
@@ -17,12 +17,16 @@ use Rattle.rulebook.specs.declared.Status.{Status}
 use Rattle.rulebook.specs.declared.Slot.{Slot}
 use Rattle.rulebook.specs.declared.Task.{Task}
 use Rattle.acts.specs.declared.SlotRow.the-variants as slotrow
+use Rattle.acts.specs.declared.TaskRow.{TaskRow}
 use Rattle.acts.specs.declared.TaskRow.the-variants as taskrow
+use Rattle.acts.specs.declared.StageRow.{StageRow}
+use Rattle.acts.specs.declared.StageRow.the-variants as stagerow
+use Rattle.rulebook.specs.Tests.{by-test}
 use Rattle.pool.specs.declared.Header.{Header}
 use Rattle.pool.specs.declared.Header.the-variants as header
 use Rattle.pool.specs.Sizing.{Limits, limited-says, opens-by, room-none, room-some, block-positive}
-use Rattle.pool.specs.Codes.{codeOf, stageFrom, isCode, statusCode, statusFrom}
-use Rattle.pool.specs.Rows.{bitOf, slotWords, slotRead, slotFits, slotRowOf, taskFields, taskWords, taskWith, taskRead, standsIn, worksIn, taskFits, taskRowOf}
+use Rattle.pool.specs.Codes.{codeOf, isCode, stageCoded, stageFrom, statusCode, statusFrom}
+use Rattle.pool.specs.Rows.{bitOf, slotWords, slotRead, slotFits, slotRowOf, taskFields, taskWords, taskWith, taskRead, standsIn, worksIn, taskFits, taskRowOf, stageSeen}
 use Rattle.pool.specs.Header.{mark, form, limited, sizesOf, sizesIn, headed, headerFields, headerOf}
 
 -- at a return whose case was found by tests on numbers
@@ -82,6 +86,10 @@ pub ruleset sizing = (sizes-unlimited, sizes-cells, sizes-handles, sizes-tasks, 
 
 -- ---- rows
 
+and-no : (x : Bool) → (x && false) ≡ false
+and-no true = refl
+and-no false = refl
+
 pub slot-good : (d : Sizes) (w : List ℕ) (s : Status) → getD w 1 0 < 3 → getD w 2 0 < d .b → getD w 3 0 ≤ d .n → getD w 0 0 ≤ lastSerial → s ≡ statusFrom (getD w 1 0)
     → slotrow.Row (record { serial = getD w 0 0; status = s; block = getD w 2 0; number = getD w 3 0 }) ≡ slotRowOf d w
 unfolding slotRowOf slotFits slotRead
@@ -99,36 +107,45 @@ slot-written row x s h e =
     ∙ ap (λ (l : List ℕ). (x .serial ∷ s ∷ x .block ∷ x .number ∷ []) ++ l) (drop-of-length-le row {i = 4} (omega arith))
     ∙ ap (λ (y : ℕ). x .serial ∷ y ∷ x .block ∷ x .number ∷ []) e
 
-pub task-got : (w : List ℕ) (g : Stage) → g ≡ stageFrom (getD w 0 0) → taskWith g w ≡ taskRead w
+pub task-got : (w : List ℕ) (g : Stage) (k : Task) → g ≡ stageFrom (getD w 0 0) → k ≡ taskWith g w → k ≡ taskRead w
 unfolding taskRead
-task-got w g e = ap (λ (x : Stage). taskWith x w) e
+task-got w g k e f = f ∙ ap (λ (x : Stage). taskWith x w) e
 
-module _ (d : Sizes) (w : List ℕ) (k : Task) (e : k ≡ taskRead w) (c : ℕ) (f : c ≡ codeOf (k .stage)) where
-  told : isCode (getD w 0 0) ≡ eqb c (getD w 0 0)
-  unfolding isCode taskRead
-  told = rw (f, e)
+module _ (d : Sizes) (w : List ℕ) where
+  module _ (x : Bool) (e : x ≡ standsIn d (taskRead w)) where
+    pub stage-nowhere : not x ≡ true → stagerow.Bad ≡ stageSeen (taskRowOf d w)
+    unfolding taskRowOf taskFits
+    stage-nowhere q = rw (← e, not-true x q, and-no (isCode (getD w 0 0)))
 
-  pub task-coded : (c ≡ getD w 0 0 → ⊥) → taskrow.Bad ≡ taskRowOf d w
-  unfolding taskRowOf
-  task-coded h = rw (told, ne-eqb _ _ h)
+    module _ (y : Bool) (f : y ≡ worksIn d (taskRead w)) where
+      pub stage-idles : not x ≡ false → not y ≡ true → stagerow.Bad ≡ stageSeen (taskRowOf d w)
+      unfolding taskRowOf taskFits
+      stage-idles q r = rw (← e, not-false x q, ← f, not-true y r, and-no (isCode (getD w 0 0)))
 
-  module _ (h : c ≡ getD w 0 0) (x : Bool) (g : x ≡ taskFits d k) where
-    pub task-bad : not x ≡ true → taskrow.Bad ≡ taskRowOf d w
-    unfolding taskRowOf
-    task-bad q = rw (told, eq-eqb _ _ h, ← e, ← g, not-true x q)
+      pub stage-is : (r : StageRow) → not x ≡ false → not y ≡ false → r ≡ stageCoded (getD w 0 0) → r ≡ stageSeen (taskRowOf d w)
+      unfolding taskRowOf taskFits stageCoded
+      stage-is r p q g = g ∙ by-test (isCode (getD w 0 0)) (λ o. rw (o, ← e, not-false x p, ← f, not-false y q) read-stage) (λ o. rw o)
+        where
+          read-stage : stagerow.At (stageFrom (getD w 0 0)) ≡ stagerow.At (taskRead w .stage)
+          read-stage = unfold taskRead in refl
 
-    pub task-good : not x ≡ false → taskrow.Row k ≡ taskRowOf d w
-    unfolding taskRowOf
-    task-good q = rw (told, eq-eqb _ _ h, ← e, ← g, not-false x q)
+  module _ (x : StageRow) (e : x ≡ stageSeen (taskRowOf d w)) where
+    pub task-bad : x ≡ stagerow.Bad → taskrow.Bad ≡ taskRowOf d w
+    task-bad f = at (taskRowOf d w) (sym e ∙ f)
+      where
+        at : (y : TaskRow) → stageSeen y ≡ stagerow.Bad → taskrow.Bad ≡ y
+        at taskrow.Bad q = refl
+        at (taskrow.Row k) q = let z : _≡_ {A = ℕ} 0 1 = cc in absurd (omega arith)
 
-module _ (d : Sizes) (k : Task) (x : Bool) (g : x ≡ standsIn d k) where
-  pub fits-not : not x ≡ true → false ≡ taskFits d k
-  unfolding taskFits
-  fits-not q = rw (← g, not-true x q)
+    pub task-good : (g : Stage) (k : Task) → x ≡ stagerow.At g → k ≡ taskWith g w → taskrow.Row k ≡ taskRowOf d w
+    unfolding taskRowOf taskRead
+    task-good g k f h = by-test (isCode (getD w 0 0) && taskFits d (taskRead w)) (λ o. rw o (ap taskrow.Row (h ∙ ap (λ (y : Stage). taskWith y w) (sym (same o))))) (λ o. absurd (out o))
+      where
+        same : isCode (getD w 0 0) && taskFits d (taskRead w) ≡ true → stageFrom (getD w 0 0) ≡ g
+        same o = let q : stagerow.At (stageFrom (getD w 0 0)) ≡ stagerow.At g = (rw o at (sym e ∙ f)) in cc
 
-  pub fits-as : (y : Bool) → not x ≡ false → y ≡ worksIn d k → y ≡ taskFits d k
-  unfolding taskFits
-  fits-as y q i = rw (← g, not-false x q) i
+        out : isCode (getD w 0 0) && taskFits d (taskRead w) ≡ false → ⊥
+        out o = let q : stagerow.Bad ≡ stagerow.At g = (rw o at (sym e ∙ f)) in let z : _≡_ {A = ℕ} 0 1 = cc in omega arith
 
 pub task-written : (row : List ℕ) (k : Task) (g b : ℕ) → length row ≡ 32 → g ≡ codeOf (k .stage) → b ≡ bitOf (k .hand .found)
     → sets row 0 (g ∷ k .slot ∷ k .block ∷ k .number ∷ k .cell ∷ k .value ∷ k .until ∷ k .fresh ∷ k .target
@@ -144,7 +161,7 @@ task-written row k g b h e f =
 
 pub ruleset rowing = (slot-good, slot-got, slot-written, task-got, task-written)
 
-pub ruleset tasking = (task-coded, task-bad, task-good, fits-not, fits-as)
+pub ruleset tasking = (stage-nowhere, stage-idles, stage-is, task-bad, task-good)
 
 -- ---- the header
 

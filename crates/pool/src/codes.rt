@@ -1,11 +1,12 @@
 // The numbers that stand for a stage and a status in a row, and back.
+use acts::StageRow;
 use rulebook::Reading;
 use rulebook::Stage;
 use rulebook::Status;
 ghost use mathlib.Core.Path.{_≡_};
 ghost use Prim.Native.Nat.{_<_};
 ghost use Rattle.rulebook.specs.Answers.{readingCode};
-ghost use Rattle.pool.specs.Codes.{codeOf, readingFrom, makingFrom, settingFrom, stageFrom, statusCode, statusFrom};
+ghost use Rattle.pool.specs.Codes.{codeOf, readingFrom, makingFrom, settingFrom, stageFrom, stageCoded, statusCode, statusFrom};
 
 fn reading_code(r: Reading) -> u32
     ensures { λ c. ⌜ (c ≡ readingCode r) × (c < 7) ⌝ }
@@ -87,6 +88,37 @@ pub fn stage_from(c: u32) -> Stage
         3 => setting_from(x),
         4 => Stage::Paging(reading_from(x)),
         _ => Stage::Idle,
+    }
+}
+
+// The stage whose code is c, or that there is none: one look for every code.
+pub fn stage_coded(c: u32) -> StageRow
+    ensures { λ r. ⌜ r ≡ stageCoded c ⌝ }
+{
+    match c {
+        0 => StageRow::At(Stage::Idle),
+        13 => StageRow::At(Stage::TakeNew),
+        14 => StageRow::At(Stage::FillNew),
+        27 => StageRow::At(Stage::Getting(Reading::Guess)),
+        28 => StageRow::At(Stage::Getting(Reading::Version)),
+        29 => StageRow::At(Stage::Getting(Reading::Length)),
+        30 => StageRow::At(Stage::Getting(Reading::Probe)),
+        37 => StageRow::At(Stage::TakeCopy),
+        38 => StageRow::At(Stage::FillCopy),
+        39 => StageRow::At(Stage::Copying(Reading::Guess)),
+        40 => StageRow::At(Stage::Copying(Reading::Version)),
+        41 => StageRow::At(Stage::Copying(Reading::Length)),
+        42 => StageRow::At(Stage::Copying(Reading::Probe)),
+        43 => StageRow::At(Stage::Exchange),
+        44 => StageRow::At(Stage::Read),
+        45 => StageRow::At(Stage::Append),
+        46 => StageRow::At(Stage::Write),
+        47 => StageRow::At(Stage::Put),
+        51 => StageRow::At(Stage::Paging(Reading::Guess)),
+        52 => StageRow::At(Stage::Paging(Reading::Version)),
+        53 => StageRow::At(Stage::Paging(Reading::Length)),
+        54 => StageRow::At(Stage::Paging(Reading::Probe)),
+        _ => StageRow::Bad,
     }
 }
 

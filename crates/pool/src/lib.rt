@@ -1,24 +1,31 @@
-// The lent words of a store: what the header says, where rows and blocks lie, and the only two functions that write them, `apply` and `open`.
+// The lent words of a store: what the header says, where rows and blocks lie, and what writes them.
 mod blocks;
 mod codes;
-mod doing;
 mod headers;
 mod opening;
 mod rows;
 
+pub use blocks::append;
 pub use blocks::bump;
 pub use blocks::cell;
 pub use blocks::entry;
+pub use blocks::exchange;
+pub use blocks::fill;
 pub use blocks::laid;
 pub use blocks::log_length;
+pub use blocks::take;
 pub use blocks::version;
-pub use doing::apply;
+pub use blocks::write;
 pub use headers::header_of;
 pub use opening::open;
 pub use rows::load_slot;
 pub use rows::load_task;
 pub use rows::slot_at;
+pub use rows::stage_at;
+pub use rows::store_slot;
+pub use rows::store_task;
 pub use rows::task_at;
+pub use rows::task_for;
 use rulebook::Sizes;
 ghost use mathlib.Core.Path.{_≡_};
 ghost use Prim.Native.Nat.{_≤_, _<_};

@@ -3,15 +3,18 @@ use super::HANDLE_ROW;
 use super::HEADER;
 use super::TASK_ROW;
 use super::codes::code_of;
+use super::codes::stage_coded;
 use super::codes::stage_from;
 use super::codes::status_code;
 use super::codes::status_from;
 use super::wide;
 use acts::SlotRow;
+use acts::StageRow;
 use acts::TaskRow;
 use rulebook::Hand;
 use rulebook::Sizes;
 use rulebook::Slot;
+use rulebook::Stage;
 use rulebook::Task;
 ghost use mathlib.Core.Path.{_≡_};
 ghost use mathlib.Core.List.{_++_};
@@ -19,7 +22,7 @@ ghost use Prim.Native.Nat.{_+_, _<_, _≤_};
 ghost use lib.ListN.{length, drop};
 ghost use Rattle.rulebook.specs.Sizes.{mostHandles, mostTasks, handleRow, taskRow};
 ghost use Rattle.pool.specs.Places.{Spans, slotStart, taskStart, slotPart, taskPart};
-ghost use Rattle.pool.specs.Rows.{bitOf, slotWords, slotRead, taskWords, taskFields, taskRead, standsIn, worksIn, taskFits, slotRowOf, taskRowOf};
+ghost use Rattle.pool.specs.Rows.{bitOf, slotWords, slotRead, taskWords, taskFields, taskWith, taskRead, standsIn, worksIn, slotRowOf, taskRowOf, stageSeen};
 ghost use Rattle.pool.specs.Pool.{slotIn, taskIn, putSlot, putTask};
 
 const SLOT_WORDS: usize = HANDLE_ROW as usize;
@@ -149,9 +152,10 @@ fn write_task(row: &mut [u32], k: Task)
     row[16] = k.steps;
 }
 
-fn task_of(row: &[u32]) -> Task
+// The task of a row, but for its stage.
+fn task_with(row: &[u32], g: Stage) -> Task
     requires { ⌜ length (now row) ≡ taskRow ⌝ }
-    ensures { λ r. ⌜ r ≡ taskRead (now (row .entry)) ⌝ }
+    ensures { λ r. ⌜ r ≡ taskWith g (now (row .entry)) ⌝ }
 {
     let w = Hand {
         cell: row[9],
@@ -162,7 +166,6 @@ fn task_of(row: &[u32]) -> Task
         candidate: row[14],
         version: row[15],
     };
-    let g = stage_from(row[0]);
     Task {
         stage: g,
         slot: row[1],
@@ -178,63 +181,73 @@ fn task_of(row: &[u32]) -> Task
     }
 }
 
-// The numbers of the handle that a task names.
-fn stands(d: Sizes, k: Task) -> bool
-    ensures { λ r. ⌜ r ≡ standsIn d k ⌝ }
+fn task_of(row: &[u32]) -> Task
+    requires { ⌜ length (now row) ≡ taskRow ⌝ }
+    ensures { λ r. ⌜ r ≡ taskRead (now (row .entry)) ⌝ }
 {
-    if d.h <= k.slot {
+    let g = stage_from(row[0]);
+    task_with(row, g)
+}
+
+// The numbers of the handle that a task names.
+fn stands(row: &[u32], d: Sizes) -> bool
+    requires { ⌜ length (now row) ≡ taskRow ⌝ }
+    ensures { λ r. ⌜ r ≡ standsIn d (taskRead (now (row .entry))) ⌝ }
+{
+    if d.h <= row[1] {
         return false;
     }
-    if d.b <= k.block {
+    if d.b <= row[2] {
         return false;
     }
-    k.number <= d.n
+    row[3] <= d.n
 }
 
 // The numbers of what it does.
-fn works(d: Sizes, k: Task) -> bool
-    ensures { λ r. ⌜ r ≡ worksIn d k ⌝ }
+fn works(row: &[u32], d: Sizes) -> bool
+    requires { ⌜ length (now row) ≡ taskRow ⌝ }
+    ensures { λ r. ⌜ r ≡ worksIn d (taskRead (now (row .entry))) ⌝ }
 {
-    let w = k.hand;
-    if d.n <= k.cell {
+    if d.n <= row[4] {
         return false;
     }
-    if d.n < k.until {
+    if d.n < row[6] {
         return false;
     }
-    if d.h <= k.fresh {
+    if d.h <= row[7] {
         return false;
     }
-    if d.b <= k.target {
+    if d.b <= row[8] {
         return false;
     }
-    if d.n <= w.cell {
+    if d.n <= row[9] {
         return false;
     }
-    k.steps < MOST_STEPS
+    row[16] < MOST_STEPS
 }
 
-fn fits(d: Sizes, k: Task) -> bool
-    ensures { λ r. ⌜ r ≡ taskFits d k ⌝ }
+// The stage of a row whose numbers are all in their ranges.
+fn stage_of(row: &[u32], d: Sizes) -> StageRow
+    requires { ⌜ length (now row) ≡ taskRow ⌝ }
+    ensures { λ r. ⌜ r ≡ stageSeen (taskRowOf d (now (row .entry))) ⌝ }
 {
-    if !stands(d, k) {
-        return false;
+    if !stands(row, d) {
+        return StageRow::Bad;
     }
-    works(d, k)
+    if !works(row, d) {
+        return StageRow::Bad;
+    }
+    stage_coded(row[0])
 }
 
 fn read_task(row: &[u32], d: Sizes) -> TaskRow
     requires { ⌜ length (now row) ≡ taskRow ⌝ }
     ensures { λ r. ⌜ r ≡ taskRowOf d (now (row .entry)) ⌝ }
 {
-    let k = task_of(row);
-    let g = k.stage;
-    if code_of(g) != row[0] {
+    let StageRow::At(g) = stage_of(row, d) else {
         return TaskRow::Bad;
-    }
-    if !fits(d, k) {
-        return TaskRow::Bad;
-    }
+    };
+    let k = task_with(row, g);
     TaskRow::Row(k)
 }
 
@@ -252,6 +265,24 @@ pub fn task_at(pool: &[u32], d: Sizes, t: u32) -> Task
 {
     let s = task_start(d, t);
     task_of(&pool[s..s + TASK_WORDS])
+}
+
+// Task t as it lies, but for its stage.
+pub fn task_for(pool: &[u32], d: Sizes, t: u32, g: Stage) -> Task
+    requires { ⌜ Spans d (now pool) × (t < d .t) ⌝ }
+    ensures { λ r. ⌜ r ≡ taskWith g (taskPart (now (pool .entry)) d t) ⌝ }
+{
+    let s = task_start(d, t);
+    task_with(&pool[s..s + TASK_WORDS], g)
+}
+
+// The stage of task t.
+pub fn stage_at(pool: &[u32], d: Sizes, t: u32) -> StageRow
+    requires { ⌜ Spans d (now pool) × (t < d .t) ⌝ }
+    ensures { λ r. ⌜ r ≡ stageSeen (taskIn (now (pool .entry)) d t) ⌝ }
+{
+    let s = task_start(d, t);
+    stage_of(&pool[s..s + TASK_WORDS], d)
 }
 
 // The row of task t.

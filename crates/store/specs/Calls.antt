@@ -1,35 +1,72 @@
 -- For each look and each call, one law for each way out.
--- Rests on pool's calls on words, and on Reach.
+-- Rests on pool's calls on words.
 use Prim.Native.Nat.{_<_, _≤_, ℕ}
 use mathlib.Core.Bool.{not}
 use mathlib.Core.List.{List}
-use mathlib.Core.Path.{_∙_, _≡_, ap₂, refl, subst, sym}
+use mathlib.Core.Path.{_∙_, _≡_, ap, ap₂, refl, sym}
+use native.Mathlib.Omega.{arith}
 use lib.Dec.{eqb, leb}
-use borrow.Author.Tests.{le-leb, lt-leb, ne-eqb}
+use borrow.Author.Tests.{le-leb, leb-false, lt-leb, ne-eqb}
 use Rattle.acts.specs.declared.Act.{Act}
 use Rattle.acts.specs.declared.Counted.{Counted}
+use Rattle.acts.specs.declared.Found.{Found}
+use Rattle.acts.specs.declared.Said.{Said}
 use Rattle.acts.specs.declared.TaskRow.{TaskRow}
 use Rattle.block.specs.declared.Looked.{Looked}
+use Rattle.block.specs.declared.Probed.{Probed}
 use Rattle.pool.specs.declared.Header.{Header}
 use Rattle.rulebook.specs.declared.Reply.{Reply}
 use Rattle.rulebook.specs.declared.Sizes.{Sizes}
-use Rattle.acts.specs.Looks.{countOf, livesAt, reports, seesCell, seesEntry, seesLog, seesReport, seesRow, seesTask, seesUnder, seesVersion, shows, unseenIn}
-use Rattle.acts.specs.Plans.{planGet, planNew, planPage, planRelease, planSet, planStep, standerIn}
+use Rattle.acts.specs.Looks.{countOf, livesAt, reports, seesCell, seesEntry, seesLog, seesReport, seesRow, seesTask, seesUnder, seesVersion, shows, showsEntry, unseen, unseenIn}
+use Rattle.acts.specs.Plans.{standerIn}
+use Rattle.acts.specs.Said.{saidOf, toldIn}
 use Rattle.acts.specs.Sight.{Sight}
-use Rattle.block.specs.Words.{cellIn, lengthIn, versionIn}
+use Rattle.block.specs.Words.{cellIn, entryIn, lengthIn, versionIn}
 use Rattle.pool.specs.Calls.{calledIn, seenIn}
 use Rattle.pool.specs.Header.{headerOf}
 use Rattle.pool.specs.Places.{Spans, blockPart}
-use Rattle.pool.specs.Pool.{InReach, appliedIn, sight, taskIn}
+use Rattle.pool.specs.Pool.{appliedIn, sight, taskIn}
 use Rattle.pool.specs.Sizing.{header-spans}
 use Rattle.rulebook.specs.Sizes.{if_then_else_}
-use Rattle.store.specs.Reach.{get-reaches, new-reaches, page-reaches, release-reaches, set-reaches, step-reaches}
+use Rattle.rulebook.specs.Tests.{by-test}
 use Rattle.rulebook.specs.declared.Reply.the-variants as reply
 use Rattle.pool.specs.declared.Header.the-variants as header
+use Rattle.block.specs.declared.Looked.the-variants as looked
 
 -- ---- looks
 
 module _ (p : List ℕ) (d : Sizes) where
+  module _ (b : ℕ) where
+    pub hidden-none : d .b ≤ b → 12 ≡ unseenIn (sight p d) b
+    unfolding unseenIn sight
+    hidden-none l = rw (le-leb (d .b) b l)
+
+    pub hidden-is : (r : ℕ) (x : Found) → b < d .b → x ≡ standerIn (sight p d) b → r ≡ unseen x → r ≡ unseenIn (sight p d) b
+    unfolding unseenIn
+    hidden-is r x l e f = f ∙ ap unseen e ∙ sym (there (unseen (standerIn (sight p d) b)))
+      where
+        there : (m : ℕ) → (if leb (sight p d .sizes .b) b then 12 else m) ≡ m
+        there m = unfold sight in rw (lt-leb (d .b) b l)
+
+  -- a look at a block that is there
+  pub seen-below : (b r : ℕ) → r ≡ unseenIn (sight p d) b → r ≡ 0 → b < d .b
+  unfolding unseenIn sight
+  seen-below b r e z = by-test (leb (d .b) b) (λ o. let q : 0 ≡ 12 = sym z ∙ e ∙ rw o in absurd (omega arith)) (λ o. leb-false (d .b) b o)
+
+  module _ (b i j : ℕ) where
+    pub entry-none : (x : Looked) → x ≡ looked.Bad → reply.Refused 2 ≡ seesUnder x (sight p d) b i j
+    unfolding seesUnder
+    entry-none x e = rw e
+
+    module _ (x : Looked) (m : ℕ) (e : x ≡ looked.Word m) where
+      pub entry-over : m ≤ j → reply.Refused 12 ≡ seesUnder x (sight p d) b i j
+      unfolding seesUnder
+      entry-over l = rw (e, le-leb m j l)
+
+      pub entry-is : (r : Reply) (y : Probed) → j < m → y ≡ entryIn (d .n) (blockPart p d b) i j → r ≡ showsEntry y → r ≡ seesUnder x (sight p d) b i j
+      unfolding seesUnder sight
+      entry-is r y l q f = f ∙ rw (e, lt-leb m j l, q)
+
   module _ (n b : ℕ) (e : n ≡ unseenIn (sight p d) b) where
     module _ (o : n ≡ 0 → ⊥) where
       hid : (z : Reply) → reply.Refused n ≡ (if not (eqb (unseenIn (sight p d) b) 0) then reply.Refused (unseenIn (sight p d) b) else z)
@@ -112,13 +149,13 @@ module _ (p : List ℕ) (h : Header) (e : h ≡ headerOf p) where
   pub spans-of : (d : Sizes) → h ≡ header.Good d → Spans d p
   spans-of d g = header-spans p d (sym e ∙ g)
 
-  pub called-bad : (f : Sight → Act) → h ≡ header.Bad → (p, reply.Refused 1) ≡ calledIn (headerOf p) p f
-  unfolding calledIn
-  called-bad f g = rw (← e, g)
+  pub called-bad : (f : Sight → Act) (s : Said) → h ≡ header.Bad → s ≡ saidOf (reply.Refused 1) → (p, s) ≡ toldIn (calledIn (headerOf p) p f)
+  unfolding calledIn toldIn
+  called-bad f s g i = rw (← e, g, i)
 
-  pub called-good : (f : Sight → Act) (d : Sizes) (a : Act) (q : List ℕ) (r : Reply) → h ≡ header.Good d → a ≡ f (sight p d) → (q, r) ≡ appliedIn p d a → (q, r) ≡ calledIn (headerOf p) p f
+  pub called-good : (f : Sight → Act) (d : Sizes) (q : List ℕ) (s : Said) → h ≡ header.Good d → (q, s) ≡ toldIn (appliedIn p d (f (sight p d))) → (q, s) ≡ toldIn (calledIn (headerOf p) p f)
   unfolding calledIn
-  called-good f d a q r g i j = j ∙ rw (← e, g, i)
+  called-good f d q s g i = i ∙ rw (← e, g)
 
   pub seen-bad : (f : Sight → Reply) → h ≡ header.Bad → reply.Refused 1 ≡ seenIn (headerOf p) p f
   unfolding seenIn
@@ -128,26 +165,8 @@ module _ (p : List ℕ) (h : Header) (e : h ≡ headerOf p) where
   unfolding seenIn
   seen-good f d r g i = i ∙ rw (← e, g)
 
--- an act that was planned is in reach
-module _ (p : List ℕ) (d : Sizes) (sp : Spans d p) (a : Act) (t : ℕ) where
-  pub new-reach : (v : ℕ) → a ≡ planNew (sight p d) t v → InReach d a
-  new-reach v e = subst (InReach d) (sym e) (new-reaches p d sp t v)
-
-  pub get-reach : (h i : ℕ) → a ≡ planGet (sight p d) t h i → InReach d a
-  get-reach h i e = subst (InReach d) (sym e) (get-reaches p d sp t h i 0)
-
-  pub set-reach : (h i v : ℕ) → a ≡ planSet (sight p d) t h i v → InReach d a
-  set-reach h i v e = subst (InReach d) (sym e) (set-reaches p d sp t h i v)
-
-  pub page-reach : (h i v : ℕ) → a ≡ planPage (sight p d) t h i v → InReach d a
-  page-reach h i v e = subst (InReach d) (sym e) (page-reaches p d sp t h i v)
-
-  pub step-reach : a ≡ planStep (sight p d) t → InReach d a
-  step-reach e = subst (InReach d) (sym e) (step-reaches p d sp t)
-
-  pub release-reach : a ≡ planRelease (sight p d) t → InReach d a
-  release-reach e = subst (InReach d) (sym e) (release-reaches p d sp t)
+pub ruleset hides = (hidden-none, hidden-is, seen-below, entry-none, entry-over, entry-is)
 
 pub ruleset looks = (version-hid, cell-hid, log-hid, entry-hid, version-met, cell-beyond, log-beyond, entry-beyond, cell-met, log-met, entry-met, task-none, task-met, report-is)
 
-pub ruleset calls = (spans-of, called-bad, called-good, seen-bad, seen-good, new-reach, get-reach, set-reach, page-reach, step-reach, release-reach)
+pub ruleset calls = (spans-of, called-bad, called-good, seen-bad, seen-good)

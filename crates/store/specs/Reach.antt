@@ -14,23 +14,19 @@ use Rattle.acts.specs.declared.SlotRow.{SlotRow}
 use Rattle.acts.specs.declared.TaskRow.{TaskRow}
 use Rattle.acts.specs.declared.Touch.{Touch}
 use Rattle.block.specs.declared.Looked.{Looked}
-use Rattle.block.specs.declared.Probed.{Probed}
-use Rattle.rulebook.specs.declared.Entry.{Entry}
-use Rattle.rulebook.specs.declared.Hand.{Hand}
-use Rattle.rulebook.specs.declared.Reading.{Reading}
 use Rattle.rulebook.specs.declared.Reply.{Reply}
 use Rattle.rulebook.specs.declared.Sizes.{Sizes}
 use Rattle.rulebook.specs.declared.Slot.{Slot}
 use Rattle.rulebook.specs.declared.Stage.{Stage}
 use Rattle.rulebook.specs.declared.Task.{Task}
-use Rattle.acts.specs.Plans.{CellRead, InHand, appendsEntry, copyGoes, ends, exchangesOn, fillsCopy, fillsNew, finishes, firstOf, foundIf, freeAt, freeIn, getGoes, getOn, givesUp, goes, holderIn, liveIn, newOn, orElse, pageGoes, pageOn, pageSettles, planAt, planGet, planNew, planPage, planRelease, planRow, planSet, planStep, puts, readEntry, readGuess, readIn, readLength, readVersion, readsOld, readyIn, refused, releaseAt, releaseOn, reservesFor, setAt, setOn, takes, unheld, userIn, vacant, vacantAt, vacantIn, writesNew}
+use Rattle.acts.specs.Plans.{appendsEntry, copyGoes, ends, exchangesOn, fillsCopy, fillsNew, finishes, firstOf, foundIf, freeAt, freeIn, getGoes, getOn, givesUp, goes, holderIn, liveIn, newOn, orElse, pageGoes, pageOn, pageSettles, planAt, planGet, planNew, planPage, planRelease, planRow, planSet, planStep, puts, readIn, readsOld, readyIn, refused, releaseAt, releaseOn, reservesFor, setAt, setOn, takes, unheld, userIn, vacant, vacantAt, vacantIn, writesNew}
 use Rattle.acts.specs.Sight.{Sight}
 use Rattle.pool.specs.Places.{Spans, taskPart}
 use Rattle.pool.specs.Pool.{InReach, sight, slotIn, slotNear, taskIn, taskNear, touchNear}
 use Rattle.pool.specs.Ranges.{task-ranged, task-row}
 use Rattle.rulebook.specs.Sizes.{if_then_else_, lastSerial, slotOf}
 use Rattle.rulebook.specs.State.{idle, isFree}
-use Rattle.rulebook.specs.Steps.{counted, middle, probedAt}
+use Rattle.rulebook.specs.Steps.{counted}
 use Rattle.rulebook.specs.Tests.{by-test, if-case}
 use Rattle.store.specs.Asked.{FoundBelow, Reaching}
 use Rattle.acts.specs.declared.Found.the-variants as found
@@ -44,7 +40,6 @@ use Rattle.rulebook.specs.declared.Reading.the-variants as reading
 use Rattle.rulebook.specs.declared.Progress.the-variants as progress
 use Rattle.rulebook.specs.declared.Reply.the-variants as reply
 use Rattle.block.specs.declared.Looked.the-variants as looked
-use Rattle.block.specs.declared.Probed.the-variants as probed
 use Rattle.acts.specs.declared.Read as reads
 
 -- ---- what is found is among the rows that were tried
@@ -172,35 +167,6 @@ module _ (d : Sizes) where
     reach-at stage.FillCopy e k h f = reach-goes (touch.Fill (k .target) (k .hand .cell) _) t _ _ (lt-ltb (k .target) (d .b) (h .target)) inT
     reach-at stage.Put e k h f = reach-finish (e .slot (k .fresh)) (touch.Fill (k .target) (k .cell) (k .value)) k (k .target) 0 (lt-ltb (k .target) (d .b) (h .target)) (h .fresh)
     reach-at (stage.Paging r) e k h f = reach-get (readIn r e k) k .1
-
--- the cell in hand stays below the last word's number
-pub cell-read : (r : Reading) (e : Sight) (k : Task) → k .hand .cell < 4294967295 → CellRead (readIn r e k)
-unfolding readIn readGuess readVersion readLength readEntry
-cell-read reading.Guess e k h = guess (e .cell (k .block) (k .hand .cell))
-  where
-    guess : (x : Looked) → CellRead (readGuess x (k .hand))
-    guess looked.Bad = tt
-    guess (looked.Word v) = tt
-cell-read reading.Version e k h = version (e .version (k .block))
-  where
-    version : (x : Looked) → CellRead (readVersion x (k .number) (k .hand))
-    version looked.Bad = tt
-    version (looked.Word v) = if-case InHand (eqb v (k .number)) (λ _. h) (λ _. tt)
-cell-read reading.Length e k h = size (e .log (k .block) (k .hand .cell))
-  where
-    size : (x : Looked) → CellRead (readLength x (k .hand))
-    size looked.Bad = tt
-    size (looked.Word m) = if-case InHand (eqb m 0) (λ _. h) (λ _. tt)
-cell-read reading.Probe e k h = if-case CellRead (leb (k .hand .hi) (k .hand .lo)) (λ _. tt) (λ _. probe (e .entry (k .block) (k .hand .cell) (middle (k .hand))))
-  where
-    same : (x : Entry) → probedAt (middle (k .hand)) x (k .number) (k .hand) .cell ≡ k .hand .cell
-    same x = if-case (λ (w : Hand). w .cell ≡ k .hand .cell) (leb (k .number) (x .version)) (λ _. refl) (λ _. refl)
-
-    probe : (x : Probed) → CellRead (readEntry x (k .number) (k .hand))
-    probe probed.Bad = tt
-    probe (probed.Found x) =
-        let q = probedAt (middle (k .hand)) x (k .number) (k .hand) in
-        if-case InHand (eqb (q .lo) (q .hi)) (λ _. omega (arith, same x)) (λ _. tt)
 
 -- ---- plans
 

@@ -8,14 +8,13 @@ use lib.Dec.{ltb}
 use lib.ListN.{drop, length}
 use lib.Seq.{sets, sets-eq}
 use borrow.Author.Tests.{le-ltb, lt-ltb}
-use Rattle.rulebook.specs.declared.Reading.{Reading}
 use Rattle.rulebook.specs.declared.Reply.{Reply}
-use Rattle.rulebook.specs.declared.Stage.{Stage}
 use Rattle.rulebook.specs.declared.Task.{Task}
-use Rattle.rulebook.specs.Answers.{operation, refusal, stageCode, taskWords, word, words}
+use Rattle.rulebook.specs.Answers.{operation, refusal, stageCode, word}
 use Rattle.rulebook.specs.Sizes.{if_then_else_}
 use Rattle.rulebook.specs.State.{listTo}
-use Rattle.winchclover.specs.declared.Words.{Words}
+use Rattle.acts.specs.declared.Said.{Said}
+use Rattle.acts.specs.Said.{fewSaid, saidOf, toldIn}
 use Rattle.rulebook.specs.declared.Reply.the-variants as reply
 
 -- the first 16 words hold the numbers of the answer and then zeros, later words are left; the refusal number is returned
@@ -32,49 +31,20 @@ shownIn f p a = if ltb (length a) 16 then (a, 15) else saidIn a (f p)
 
 -- ---- an answer's numbers, as the code has them
 
-unfoldable pub few : ℕ → ℕ → ℕ → ℕ → ℕ → Words
-few a b c d e = record { first = a; second = b; third = c; fourth = d; fifth = e; sixth = 0; seventh = 0; eighth = 0 }
+abbrev listed : Said → List ℕ
+listed s = s .first ∷ s .second ∷ s .third ∷ s .fourth ∷ s .fifth ∷ s .sixth ∷ s .seventh ∷ s .eighth ∷ 0 ∷ 0 ∷ 0 ∷ 0 ∷ 0 ∷ 0 ∷ 0 ∷ 0 ∷ []
 
-unfoldable pub wordsOfTask : Task → Words
-wordsOfTask k =
-    record {
-      first = operation (k .stage);
-      second = stageCode (k .stage);
-      third = k .hand .cell;
-      fourth = k .hand .lo;
-      fifth = k .hand .hi;
-      sixth = k .hand .guess;
-      seventh = k .hand .candidate;
-      eighth = if k .hand .found then 1 else 0;
-    }
+unfoldable pub spokenIn : List ℕ → Said → List ℕ × ℕ
+spokenIn a s = (listed s ++ drop 16 a, s .refusal)
 
-unfoldable pub wordsOf : Reply → Words
-wordsOf r =
-    record {
-      first = word 0 r;
-      second = word 1 r;
-      third = word 2 r;
-      fourth = word 3 r;
-      fifth = word 4 r;
-      sixth = word 5 r;
-      seventh = word 6 r;
-      eighth = word 7 r;
-    }
-
-abbrev listed : Words → List ℕ
-listed w = w .first ∷ w .second ∷ w .third ∷ w .fourth ∷ w .fifth ∷ w .sixth ∷ w .seventh ∷ w .eighth ∷ 0 ∷ 0 ∷ 0 ∷ 0 ∷ 0 ∷ 0 ∷ 0 ∷ 0 ∷ []
-
-unfoldable pub written : List ℕ → Words → List ℕ
-written a w = listed w ++ drop 16 a
-
-pub words-written : (a : List ℕ) (w : Words) → 16 ≤ length a
-    → sets a 0 (w .first ∷ w .second ∷ w .third ∷ w .fourth ∷ w .fifth ∷ w .sixth ∷ w .seventh ∷ w .eighth ∷ 0 ∷ 0 ∷ 0 ∷ 0 ∷ 0 ∷ 0 ∷ 0 ∷ 0 ∷ []) ≡ written a w
-unfolding written
-words-written a w h = sets-eq (listed w) a 0 (omega arith)
+pub words-spoken : (a : List ℕ) (s : Said) → 16 ≤ length a
+    → (sets a 0 (s .first ∷ s .second ∷ s .third ∷ s .fourth ∷ s .fifth ∷ s .sixth ∷ s .seventh ∷ s .eighth ∷ 0 ∷ 0 ∷ 0 ∷ 0 ∷ 0 ∷ 0 ∷ 0 ∷ 0 ∷ []), s .refusal) ≡ spokenIn a s
+unfolding spokenIn
+words-spoken a s h = ap (λ (x : List ℕ). (x, s .refusal)) (sets-eq (listed s) a 0 (omega arith))
 
 -- no answer has more than eight numbers
-sixteen : (r : Reply) → listed (wordsOf r) ≡ listTo 16 (λ (j : ℕ). word j r)
-unfolding wordsOf listTo
+sixteen : (r : Reply) → listed (saidOf r) ≡ listTo 16 (λ (j : ℕ). word j r)
+unfolding saidOf listTo
 sixteen (reply.Refused n) = refl
 sixteen (reply.Full s) = refl
 sixteen reply.Quiet = refl
@@ -88,22 +58,24 @@ sixteen (reply.ShownEntry e) = refl
 sixteen (reply.ShownTask k) = refl
 sixteen (reply.Reported h b) = refl
 
-pub said-is : (a q : List ℕ) (r : Reply) (w : Words) (n : ℕ) → w ≡ wordsOf r → q ≡ written a w → n ≡ refusal r → (q, n) ≡ saidIn a r
-unfolding saidIn written
-said-is a q r w n e f g = ap₂ (λ (x : List ℕ) (y : ℕ). (x, y)) (f ∙ ap (λ (x : Words). listed x ++ drop 16 a) e ∙ ap (λ (x : List ℕ). x ++ drop 16 a) (sixteen r)) g
+spoken-as : (a : List ℕ) (r : Reply) → spokenIn a (saidOf r) ≡ saidIn a r
+unfolding spokenIn saidIn
+spoken-as a r = let n : saidOf r .refusal ≡ refusal r = (unfold saidOf in refl) in ap₂ (λ (x : List ℕ) (y : ℕ). (x ++ drop 16 a, y)) (sixteen r) n
+
+pub said-is : (a q : List ℕ) (r : Reply) (s : Said) (n : ℕ) → s ≡ saidOf r → (q, n) ≡ spokenIn a s → (q, n) ≡ saidIn a r
+said-is a q r s n e f = f ∙ ap (spokenIn a) e ∙ spoken-as a r
 
 -- ---- which answer it is
 
-pub answer-is : (r y : Reply) (w : Words) → r ≡ y → w ≡ wordsOf y → w ≡ wordsOf r
-answer-is r y w e f = f ∙ rw e
+pub answer-few : (r y : Reply) (s : Said) (n a b c d e : ℕ) → r ≡ y → s ≡ fewSaid n a b c d e → fewSaid n a b c d e ≡ saidOf y → s ≡ saidOf r
+answer-few r y s n a b c d e q f g = f ∙ g ∙ rw q
 
-pub task-words : (k : Task) (w : Words) → w ≡ wordsOfTask k → w ≡ wordsOf (reply.ShownTask k)
-unfolding wordsOf wordsOfTask
-task-words k w e = e
+pub answer-task : (r : Reply) (k : Task) (s : Said) → r ≡ reply.ShownTask k → s ≡ saidOf (reply.ShownTask k) → s ≡ saidOf r
+answer-task r k s q f = f ∙ rw q
 
 pub task-listed : (k : Task) (o g f : ℕ) → o ≡ operation (k .stage) → g ≡ stageCode (k .stage) → f ≡ (if k .hand .found then 1 else 0)
-    → record { first = o; second = g; third = k .hand .cell; fourth = k .hand .lo; fifth = k .hand .hi; sixth = k .hand .guess; seventh = k .hand .candidate; eighth = f } ≡ wordsOfTask k
-unfolding wordsOfTask
+    → record { refusal = 0; first = o; second = g; third = k .hand .cell; fourth = k .hand .lo; fifth = k .hand .hi; sixth = k .hand .guess; seventh = k .hand .candidate; eighth = f } ≡ saidOf (reply.ShownTask k)
+unfolding saidOf
 task-listed k o g f a b c = rw (a, b, c)
 
 -- ---- calls
@@ -117,6 +89,15 @@ module _ (p a : List ℕ) where
   unfolding answeredIn
   answered-is f q o r n h e g = rw (le-ltb (length a) 16 h, ← e, ← g)
 
+  pub answered-said : (f : List ℕ → List ℕ × Reply) (q o : List ℕ) (s : Said) (n : ℕ) → 16 ≤ length a → (q, s) ≡ toldIn (f p) → (o, n) ≡ spokenIn a s → ((q, o), n) ≡ answeredIn f p a
+  unfolding answeredIn
+  answered-said f q o s n h e g =
+      let u : toldIn (f p) .0 ≡ f p .0 = (unfold toldIn in refl) in
+      let v : toldIn (f p) .1 ≡ saidOf (f p .1) = (unfold toldIn in refl) in
+      let x : q ≡ f p .0 = ap (λ (z : List ℕ × Said). z .0) e ∙ u in
+      let y : (o, n) ≡ saidIn a (f p .1) = said-is a o (f p .1) s n (ap (λ (z : List ℕ × Said). z .1) e ∙ v) g in
+      rw (le-ltb (length a) 16 h, x, ← y)
+
   pub shown-short : (f : List ℕ → Reply) → length a < 16 → (a, 15) ≡ shownIn f p a
   unfolding shownIn
   shown-short f h = rw (lt-ltb (length a) 16 h)
@@ -125,4 +106,4 @@ module _ (p a : List ℕ) where
   unfolding shownIn
   shown-is f o r n h e g = g ∙ rw (le-ltb (length a) 16 h, e)
 
-pub ruleset answers = (answer-is, task-words, task-listed, words-written, said-is, answered-short, answered-is, shown-short, shown-is)
+pub ruleset answers = (answer-few, answer-task, task-listed, words-spoken, said-is, answered-short, answered-is, answered-said, shown-short, shown-is)

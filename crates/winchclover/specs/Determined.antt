@@ -3,7 +3,7 @@
 use Prim.Native.Nat.{ℕ}
 use mathlib.Core.List.{List}
 use mathlib.Core.Path.{_≡_}
-use Rattle.audit.specs.Broken.{brokenIn}
+use Rattle.survey.specs.Broken.{brokenIn}
 use Rattle.pool.specs.Calls.{lookCellIn, lookEntryIn, lookLogIn, lookTaskIn, lookVersionIn, releaseIn, reportIn, startGetIn, startNewIn, startPageIn, startSetIn, stepIn}
 use Rattle.pool.specs.Pool.{openIn}
 use Rattle.store.specs.Determined.{both}

@@ -1,5 +1,6 @@
 // What C reads of an answer: the refusal number, and the first 16 words of the answer slice.
-use super::Words;
+use acts::Said;
+use acts::words::few;
 use rulebook::Reading;
 use rulebook::Reply;
 use rulebook::Stage;
@@ -7,9 +8,10 @@ use rulebook::Task;
 ghost use mathlib.Core.Path.{_≡_};
 ghost use Prim.Native.Nat.{_≤_};
 ghost use lib.ListN.{length};
-ghost use Rattle.rulebook.specs.Answers.{operation, readingCode, refusal, stageCode};
+ghost use Rattle.rulebook.specs.Answers.{operation, readingCode, stageCode};
+ghost use Rattle.acts.specs.Said.{saidOf};
 ghost use Rattle.rulebook.specs.Sizes.{if_then_else_};
-ghost use Rattle.winchclover.specs.Answered.{few, saidIn, written, wordsOf, wordsOfTask};
+ghost use Rattle.winchclover.specs.Answered.{saidIn, spokenIn};
 
 fn reading_code(r: Reading) -> u32
     ensures { λ c. ⌜ c ≡ readingCode r ⌝ }
@@ -69,32 +71,18 @@ fn bit(b: bool) -> u32
     if b { 1 } else { 0 }
 }
 
-fn few(a: u32, b: u32, c: u32, d: u32, e: u32) -> Words
-    ensures { λ w. ⌜ w ≡ few a b c d e ⌝ }
-{
-    Words {
-        first: a,
-        second: b,
-        third: c,
-        fourth: d,
-        fifth: e,
-        sixth: 0,
-        seventh: 0,
-        eighth: 0,
-    }
-}
-
-fn words_of_task(k: Task) -> Words
-    ensures { λ w. ⌜ w ≡ wordsOfTask k ⌝ }
+fn said_of_task(k: Task) -> Said
+    ensures { λ s. ⌜ s ≡ saidOf (Reply.ShownTask k) ⌝ }
 {
     let h = k.hand;
     let g = k.stage;
     let o = operation(g);
-    let s = stage_code(g);
+    let c = stage_code(g);
     let f = bit(h.found);
-    Words {
+    Said {
+        refusal: 0,
         first: o,
-        second: s,
+        second: c,
         third: h.cell,
         fourth: h.lo,
         fifth: h.hi,
@@ -104,57 +92,38 @@ fn words_of_task(k: Task) -> Words
     }
 }
 
-fn words_of(r: Reply) -> Words
-    ensures { λ w. ⌜ w ≡ wordsOf r ⌝ }
+fn said_of(r: Reply) -> Said
+    ensures { λ s. ⌜ s ≡ saidOf r ⌝ }
 {
     match r {
-        Reply::Refused(_) => few(0, 0, 0, 0, 0),
-        Reply::Full(steps) => few(2, steps, 0, 0, 0),
-        Reply::Quiet => few(0, 0, 0, 0, 0),
-        Reply::Opened(b) => few(b, 0, 0, 0, 0),
-        Reply::Handed(i, v) => few(1, 0, 0, i, v),
-        Reply::HandedLast(steps, i, v) => few(3, steps, 0, i, v),
-        Reply::Got(steps, i, v) => few(2, steps, 0, i, v),
-        Reply::Made(steps, h) => few(2, steps, h, 0, 0),
-        Reply::Shown(x) => few(x, 0, 0, 0, 0),
-        Reply::ShownEntry(e) => few(e.version, e.old, 0, 0, 0),
-        Reply::ShownTask(k) => words_of_task(k),
-        Reply::Reported(handles, blocks) => few(handles, blocks, 0, 0, 0),
+        Reply::Refused(n) => few(n, 0, 0, 0, 0, 0),
+        Reply::Full(steps) => few(10, 2, steps, 0, 0, 0),
+        Reply::Quiet => few(0, 0, 0, 0, 0, 0),
+        Reply::Opened(b) => few(0, b, 0, 0, 0, 0),
+        Reply::Handed(i, v) => few(0, 1, 0, 0, i, v),
+        Reply::HandedLast(steps, i, v) => few(0, 3, steps, 0, i, v),
+        Reply::Got(steps, i, v) => few(0, 2, steps, 0, i, v),
+        Reply::Made(steps, h) => few(0, 2, steps, h, 0, 0),
+        Reply::Shown(x) => few(0, x, 0, 0, 0, 0),
+        Reply::ShownEntry(e) => few(0, e.version, e.old, 0, 0, 0),
+        Reply::ShownTask(k) => said_of_task(k),
+        Reply::Reported(handles, blocks) => few(0, handles, blocks, 0, 0, 0),
     }
 }
 
-fn refusal(r: Reply) -> u32
-    ensures { λ n. ⌜ n ≡ refusal r ⌝ }
-{
-    match r {
-        Reply::Refused(n) => n,
-        Reply::Full(_) => 10,
-        Reply::Quiet => 0,
-        Reply::Opened(_) => 0,
-        Reply::Handed(_, _) => 0,
-        Reply::HandedLast(_, _, _) => 0,
-        Reply::Got(_, _, _) => 0,
-        Reply::Made(_, _) => 0,
-        Reply::Shown(_) => 0,
-        Reply::ShownEntry(_) => 0,
-        Reply::ShownTask(_) => 0,
-        Reply::Reported(_, _) => 0,
-    }
-}
-
-// The words of an answer, and 0 in the rest of 16.
-fn write(answer: &mut [u32], w: Words)
+// The words of an answer, and 0 in the rest of 16; the refusal number is returned.
+pub fn say(answer: &mut [u32], s: Said) -> u32
     requires { ⌜ 16 ≤ length (now answer) ⌝ }
-    ensures { λ _. ⌜ now (answer .exit) ≡ written (now (answer .entry)) w ⌝ }
+    ensures { λ n. ⌜ (now (answer .exit), n) ≡ spokenIn (now (answer .entry)) s ⌝ }
 {
-    answer[0] = w.first;
-    answer[1] = w.second;
-    answer[2] = w.third;
-    answer[3] = w.fourth;
-    answer[4] = w.fifth;
-    answer[5] = w.sixth;
-    answer[6] = w.seventh;
-    answer[7] = w.eighth;
+    answer[0] = s.first;
+    answer[1] = s.second;
+    answer[2] = s.third;
+    answer[3] = s.fourth;
+    answer[4] = s.fifth;
+    answer[5] = s.sixth;
+    answer[6] = s.seventh;
+    answer[7] = s.eighth;
     answer[8] = 0;
     answer[9] = 0;
     answer[10] = 0;
@@ -163,14 +132,13 @@ fn write(answer: &mut [u32], w: Words)
     answer[13] = 0;
     answer[14] = 0;
     answer[15] = 0;
+    s.refusal
 }
 
-// The answer is written; the refusal number is returned.
 pub fn tell(answer: &mut [u32], r: Reply) -> u32
     requires { ⌜ 16 ≤ length (now answer) ⌝ }
     ensures { λ n. ⌜ (now (answer .exit), n) ≡ saidIn (now (answer .entry)) r ⌝ }
 {
-    let w = words_of(r);
-    write(answer, w);
-    refusal(r)
+    let s = said_of(r);
+    say(answer, s)
 }

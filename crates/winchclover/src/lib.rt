@@ -1,26 +1,15 @@
 // The C functions: include/winchclover.h says what each takes and answers.
 mod answers;
 
+use answers::say;
 use answers::tell;
 use rulebook::Reply;
 ghost use mathlib.Core.Path.{_≡_};
-ghost use Rattle.audit.specs.Broken.{brokenIn};
+ghost use Rattle.survey.specs.Broken.{brokenIn};
 ghost use Rattle.pool.specs.Pool.{openIn};
 ghost use Rattle.pool.specs.Calls.{startNewIn, startGetIn, startSetIn, startPageIn, stepIn, releaseIn, lookVersionIn, lookCellIn, lookLogIn, lookEntryIn, lookTaskIn, reportIn};
 ghost use Rattle.rulebook.specs.declared.Reply.the-variants as reply;
 ghost use Rattle.winchclover.specs.Answered.{answeredIn, shownIn};
-
-// The numbers of an answer: eight at most.
-pub struct Words {
-    pub first: u32,
-    pub second: u32,
-    pub third: u32,
-    pub fourth: u32,
-    pub fifth: u32,
-    pub sixth: u32,
-    pub seventh: u32,
-    pub eighth: u32,
-}
 
 // The least number of words of an answer slice.
 const ANSWER_WORDS: usize = 16;
@@ -55,7 +44,7 @@ pub extern "C" fn winch_start_new(
         return 15;
     }
     let r = store::start_new(pool, task, value);
-    tell(answer, r)
+    say(answer, r)
 }
 
 #[no_mangle]
@@ -72,7 +61,7 @@ pub extern "C" fn winch_start_get(
         return 15;
     }
     let r = store::start_get(pool, task, handle, cell);
-    tell(answer, r)
+    say(answer, r)
 }
 
 #[no_mangle]
@@ -90,7 +79,7 @@ pub extern "C" fn winch_start_set(
         return 15;
     }
     let r = store::start_set(pool, task, handle, cell, value);
-    tell(answer, r)
+    say(answer, r)
 }
 
 #[no_mangle]
@@ -108,7 +97,7 @@ pub extern "C" fn winch_start_page(
         return 15;
     }
     let r = store::start_page(pool, task, handle, from, count);
-    tell(answer, r)
+    say(answer, r)
 }
 
 #[no_mangle]
@@ -119,7 +108,7 @@ pub extern "C" fn winch_step(pool: &mut [u32], task: u32, answer: &mut [u32]) ->
         return 15;
     }
     let r = store::step(pool, task);
-    tell(answer, r)
+    say(answer, r)
 }
 
 #[no_mangle]
@@ -130,7 +119,7 @@ pub extern "C" fn winch_release(pool: &mut [u32], handle: u32, answer: &mut [u32
         return 15;
     }
     let r = store::release(pool, handle);
-    tell(answer, r)
+    say(answer, r)
 }
 
 #[no_mangle]

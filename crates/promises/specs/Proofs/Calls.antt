@@ -6,7 +6,7 @@ use mathlib.Core.List.{List, _++_}
 use mathlib.Core.Path.{_∙_, _≡_, refl, subst⁻¹}
 use lib.Dec.{ltb}
 use lib.ListN.{drop, length}
-use Rattle.audit.specs.Broken.{brokenIn}
+use Rattle.survey.specs.Broken.{brokenIn}
 use Rattle.bridge.specs.Asked.{Get, LookCell, LookEntry, LookLog, LookTask, LookVersion, New, Open, Page, Release, Report, Set, Step, asked}
 use Rattle.rulebook.specs.Answers.{refusal, word}
 use Rattle.rulebook.specs.declared.Reply.{Reply}

@@ -5,7 +5,7 @@ use mathlib.Core.List.{List, _∷_}
 use mathlib.Core.Path.{_∙_, _≡_, ap, refl, subst⁻¹, sym}
 use lib.ListN.{getD, length, replicate, take}
 use borrow.Author.Tests.{le-ltb}
-use Rattle.audit.specs.Broken.{brokenIn}
+use Rattle.survey.specs.Broken.{brokenIn}
 use Rattle.audit.specs.Check.{broken-first, passes-sound, sound-passes}
 use Rattle.rulebook.specs.State.{listTo}
 use Rattle.promises.specs.Promises.{CheckPasses, CheckSound, CheckTells, Kept, poolLast}

@@ -2,8 +2,8 @@ use Prim.Native.Nat.{_-_, _≤_}
 use mathlib.Core.Path.{_≡_}
 use mathlib.Core.Bool.{true}
 use Rattle.theorems.specs.Terms.{allTo}
-use Rattle.audit.specs.Broken.{factsAt}
-use Rattle.audit.specs.Ways.{loops}
+use Rattle.survey.specs.Broken.{factsAt}
+use Rattle.survey.specs.Ways.{loops}
 use borrow.Author.Needs.{needs}
 use Rattle.audit.proofs.facts.tasks_done.Statement.{statement}
 use Rattle.audit.proofs.facts.tasks_done.Tie as tie

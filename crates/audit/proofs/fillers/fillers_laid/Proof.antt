@@ -2,8 +2,8 @@ use Prim.Native.Nat.{_-_, _≤_}
 use mathlib.Core.Path.{_≡_}
 use mathlib.Core.Bool.{true}
 use Rattle.theorems.specs.Terms.{allTo}
-use Rattle.audit.specs.Broken.{fillingAt}
-use Rattle.audit.specs.Ways.{loops}
+use Rattle.survey.specs.Broken.{fillingAt}
+use Rattle.survey.specs.Ways.{loops}
 use borrow.Author.Needs.{needs}
 use Rattle.audit.proofs.fillers.fillers_laid.Statement.{statement}
 use Rattle.audit.proofs.fillers.fillers_laid.Tie as tie

@@ -3,7 +3,7 @@ use mathlib.Core.Path.{_≡_}
 use mathlib.Core.Bool.{true}
 use Rattle.theorems.specs.Terms.{allTo}
 use Rattle.audit.specs.Gets.{olderIn}
-use Rattle.audit.specs.Ways.{loops}
+use Rattle.survey.specs.Ways.{loops}
 use borrow.Author.Needs.{needs}
 use Rattle.audit.proofs.gets.all_older.Statement.{statement}
 use Rattle.audit.proofs.gets.all_older.Tie as tie

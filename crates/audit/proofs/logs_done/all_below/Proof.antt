@@ -2,7 +2,7 @@ use Prim.Native.Nat.{_-_, _≤_}
 use mathlib.Core.Path.{_≡_}
 use mathlib.Core.Bool.{true}
 use Rattle.theorems.specs.Terms.{allTo}
-use Rattle.audit.specs.Ways.{loops}
+use Rattle.survey.specs.Ways.{loops}
 use Rattle.audit.specs.LogsDone.{below-is, cellBelow}
 use borrow.Author.Needs.{needs}
 use Rattle.audit.proofs.logs_done.all_below.Statement.{statement}

@@ -1,7 +1,7 @@
 use Prim.Native.Nat.{_-_, _≤_}
 use mathlib.Core.Path.{_≡_}
 use mathlib.Core.Bool.{false}
-use Rattle.audit.specs.Decide.{someTo}
+use Rattle.survey.specs.Decide.{someTo}
 use Rattle.audit.specs.LogsDone.{entryFrom, stamps}
 use borrow.Author.Needs.{needs}
 use Rattle.audit.proofs.logs_done.some_from.Statement.{statement}

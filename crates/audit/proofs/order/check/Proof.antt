@@ -1,5 +1,5 @@
 use Rattle.audit.specs.Order.{checks}
-use Rattle.audit.specs.Stands.{mark-start}
+use Rattle.survey.specs.Stands.{mark-start}
 use borrow.Author.Needs.{needs}
 use Rattle.audit.proofs.order.check.Statement.{statement}
 use Rattle.audit.proofs.order.check.Tie as tie

@@ -1,5 +1,5 @@
 use Rattle.audit.specs.Seven.{slots}
-use Rattle.audit.specs.Stands.{told}
+use Rattle.survey.specs.Stands.{told}
 use borrow.Author.Needs.{needs}
 use Rattle.audit.proofs.slots.laid_at.Statement.{statement}
 use Rattle.audit.proofs.slots.laid_at.Tie as tie

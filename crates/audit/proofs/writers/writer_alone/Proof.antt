@@ -2,8 +2,8 @@ use Prim.Native.Nat.{_-_, _≤_}
 use mathlib.Core.Path.{_≡_}
 use mathlib.Core.Bool.{true}
 use Rattle.theorems.specs.Terms.{allTo}
-use Rattle.audit.specs.Broken.{writerApart}
-use Rattle.audit.specs.Ways.{loops}
+use Rattle.survey.specs.Broken.{writerApart}
+use Rattle.survey.specs.Ways.{loops}
 use borrow.Author.Needs.{needs}
 use Rattle.audit.proofs.writers.writer_alone.Statement.{statement}
 use Rattle.audit.proofs.writers.writer_alone.Tie as tie

@@ -8,9 +8,8 @@ read-task-spec =
     tie.close
     (tie.spec
     (λ c κs. search (needs, tasking))
+    (λ c. search (needs, tasking))
+    (λ c. search (needs, tasking))
+    (λ c. search (needs, tasking))
     (λ c κs. search (needs, tasking))
-    (λ c. search (needs, tasking))
-    (λ c. search (needs, tasking))
-    (λ c κs. search (needs, tasking))
-    (λ c. search (needs, tasking))
     (λ c. search (needs, tasking)))

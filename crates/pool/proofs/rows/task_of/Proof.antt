@@ -1,30 +1,13 @@
 use Rattle.pool.specs.Ways.{rowing}
-use Rattle.pool.specs.Rows.{taskRead}
 use borrow.Author.Needs.{needs}
 use Rattle.pool.proofs.rows.task_of.Statement.{statement}
 use Rattle.pool.proofs.rows.task_of.Tie as tie
 
 pub task-of-spec : {M : Type 1} → statement M
-unfolding taskRead
 task-of-spec =
     tie.close
     (tie.spec
     (λ c. search (needs, rowing))
-    (λ c. search (needs, rowing))
-    (λ c. search (needs, rowing))
-    (λ c. search (needs, rowing))
-    (λ c. search (needs, rowing))
-    (λ c. search (needs, rowing))
-    (λ c. search (needs, rowing))
-    (λ c. search (needs, rowing))
     (λ c κs. search (needs, rowing))
-    (λ c. search (needs, rowing))
-    (λ c. search (needs, rowing))
-    (λ c. search (needs, rowing))
-    (λ c. search (needs, rowing))
-    (λ c. search (needs, rowing))
-    (λ c. search (needs, rowing))
-    (λ c. search (needs, rowing))
-    (λ c. search (needs, rowing))
-    (λ c. search (needs, rowing))
+    (λ c κs. search (needs, rowing))
     (λ c. search (needs, rowing)))

@@ -1,14 +1,20 @@
 use Rattle.pool.specs.Ways.{tests}
-use Rattle.pool.specs.Rows.{worksIn}
+use Rattle.pool.specs.Rows.{taskRead, worksIn}
 use borrow.Author.Needs.{needs}
 use Rattle.pool.proofs.rows.works.Statement.{statement}
 use Rattle.pool.proofs.rows.works.Tie as tie
 
 pub works-spec : {M : Type 1} → statement M
-unfolding worksIn
+unfolding worksIn taskRead
 works-spec =
     tie.close
     (tie.spec
+    (λ c. search (needs, tests))
+    (λ c. search (needs, tests))
+    (λ c. search (needs, tests))
+    (λ c. search (needs, tests))
+    (λ c. search (needs, tests))
+    (λ c. search (needs, tests))
     (λ c. search (needs, tests))
     (λ c. search (needs, tests))
     (λ c. search (needs, tests))

@@ -1,4 +1,4 @@
-use Rattle.store.specs.Steps.{hides}
+use Rattle.store.specs.Calls.{hides}
 use borrow.Author.Needs.{needs}
 use Rattle.store.proofs.looks.entry_under.Statement.{statement}
 use Rattle.store.proofs.looks.entry_under.Tie as tie

@@ -1,5 +1,4 @@
-use Rattle.store.specs.Calls.{calls, looks}
-use Rattle.store.specs.Steps.{seen-below}
+use Rattle.store.specs.Calls.{calls, looks, seen-below}
 use Rattle.pool.specs.Calls.{lookCellIn}
 use borrow.Author.Needs.{needs}
 use Rattle.store.proofs.looks.look_cell.Statement.{statement}

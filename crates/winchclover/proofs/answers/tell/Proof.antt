@@ -9,6 +9,5 @@ tell-spec =
     (tie.spec
     (λ c κs. search (needs, answers))
     (λ c κs. search (needs, answers))
-    (λ c κs. search (needs, answers))
     (λ c. search (needs, answers))
     (λ c. search (needs, answers)))

@@ -1,0 +1,16 @@
+use Rattle.store.specs.Started.{starts}
+use borrow.Author.Needs.{needs}
+use Rattle.store.proofs.starts.new_for.Statement.{statement}
+use Rattle.store.proofs.starts.new_for.Tie as tie
+
+pub new-for-spec : {M : Type 1} → statement M
+new-for-spec =
+    tie.close
+    (tie.spec
+    (λ c κs. search (needs, starts))
+    (λ c κs. search (needs, starts))
+    (λ c. search (needs, starts))
+    (λ c. search (needs, starts))
+    (λ c κs. search (needs, starts))
+    (λ c. search (needs, starts))
+    (λ c. search (needs, starts)))

@@ -1,0 +1,18 @@
+use Rattle.survey.specs.Ways.{holds}
+use borrow.Author.Needs.{needs}
+use Rattle.survey.proofs.holds.fresh_at.Statement.{statement}
+use Rattle.survey.proofs.holds.fresh_at.Tie as tie
+
+pub fresh-at-spec : {M : Type 1} → statement M
+fresh-at-spec =
+    tie.close
+    (tie.spec
+    (λ c κs. search (needs, holds))
+    (λ c κs. search (needs, holds))
+    (λ c. search (needs, holds))
+    (λ c. search (needs, holds))
+    (λ c κs. search (needs, holds))
+    (λ c κs. search (needs, holds))
+    (λ c. search (needs, holds))
+    (λ c κs. search (needs, holds))
+    (λ c. search (needs, holds)))

@@ -1,0 +1,29 @@
+use Prim.Native.Nat.{_-_, _≤_}
+use mathlib.Core.Path.{_≡_}
+use mathlib.Core.Bool.{true}
+use Rattle.theorems.specs.Terms.{allTo}
+use Rattle.survey.specs.Broken.{offTarget}
+use Rattle.survey.specs.Ways.{loops}
+use borrow.Author.Needs.{needs}
+use Rattle.survey.proofs.holds.target_clear.Statement.{statement}
+use Rattle.survey.proofs.holds.target_clear.Tie as tie
+
+abbrev Inv-loop : tie.InvT-loop
+Inv-loop words d k j₀ j = (j ≤ d .h) × (allTo (offTarget d words k) j ≡ true)
+
+abbrev μ-loop : tie.MeasureT-loop
+μ-loop words d k j₀ j = d .h - j
+
+pub target-clear-spec : {M : Type 1} → statement M
+target-clear-spec =
+    tie.close
+    (tie.spec
+    Inv-loop
+    μ-loop
+    (λ c. search (needs, loops))
+    (λ c κs. search (needs, loops))
+    (λ c. search (needs, loops))
+    (λ c. search (needs, loops))
+    (λ c. search (needs, loops))
+    (λ c. search (needs, loops))
+    (λ c. search (needs, loops)))

@@ -1,0 +1,13 @@
+pub mod Rules
+pub mod Whole
+pub mod Decide
+pub mod Broken
+pub mod DecideBlocks
+pub mod DecideTasks
+pub mod Decided
+pub mod Reads
+pub mod Stands
+pub mod Logs
+pub mod Walk
+pub mod Ways
+pub mod Tally

@@ -1,0 +1,7 @@
+// Rules 2 to 6 of the whole-store check, on the words: handles, logs, and what tasks hold.
+pub mod handles;
+pub mod holds;
+pub mod reads;
+pub mod stands;
+pub mod tally;
+pub mod walk;
