@@ -22,7 +22,8 @@ part() {
     [ "$one" -eq 0 ] || status=1
 }
 
-part rt ci
+# more at a time than there are processors: a round of edits ends with its slowest
+part env RT_JOBS="${RT_JOBS:-4}" rt ci
 part make --no-print-directory test
 echo "$passed passed, $failed failed"
 [ $status -eq 0 ] && [ $failed -eq 0 ]

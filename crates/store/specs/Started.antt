@@ -27,9 +27,9 @@ use Rattle.pool.specs.Rows.{stageSeen}
 use Rattle.rulebook.specs.Sizes.{if_then_else_, slotOf}
 use Rattle.rulebook.specs.State.{busy}
 use Rattle.rulebook.specs.Tests.{by-test}
-use Rattle.store.specs.Asked.{FoundBelow}
-use Rattle.store.specs.Reach.{vacant-below}
-use Rattle.store.specs.Stepped.{does-goes, does-refused, does-seats}
+use Rattle.work.specs.Asked.{FoundBelow}
+use Rattle.work.specs.Reach.{vacant-below}
+use Rattle.work.specs.Stepped.{does-goes, does-refused, does-seats}
 use Rattle.acts.specs.declared.Found.the-variants as found
 use Rattle.acts.specs.declared.Live.the-variants as live
 use Rattle.acts.specs.declared.SlotRow.the-variants as slotrow

@@ -1,13 +1,6 @@
 // The store's calls on a lent pool. Each reads the header, and does what the row of its task and one block ask for, in place.
-mod ends;
 mod looks;
-mod news;
-mod readings;
-mod searches;
-mod sets;
 mod starts;
-mod steps;
-mod tasks;
 
 use acts::Said;
 use acts::words::refuses;
@@ -73,7 +66,7 @@ pub fn step(words: &mut [u32], task: u32) -> Said
     let Header::Good(d) = pool::header_of(words) else {
         return refuses(1);
     };
-    steps::step_on(words, d, task)
+    work::step_on(words, d, task)
 }
 
 pub fn release(words: &mut [u32], handle: u32) -> Said

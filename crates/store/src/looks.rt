@@ -1,7 +1,4 @@
 // The looks and the report: they read, and write nothing.
-use super::searches::live_handles;
-use super::searches::stander;
-use super::searches::stood_blocks;
 use acts::searches::reports;
 use acts::searches::sees_row;
 use acts::searches::shows;
@@ -11,6 +8,9 @@ use block::Looked;
 use pool::Header;
 use rulebook::Reply;
 use rulebook::Sizes;
+use work::searches::live_handles;
+use work::searches::stander;
+use work::searches::stood_blocks;
 ghost use mathlib.Core.Path.{_≡_};
 ghost use Prim.Native.Nat.{_<_};
 ghost use Rattle.acts.specs.Looks.{unseenIn, seesUnder};

@@ -1,6 +1,4 @@
 // The starts and the release: an idle task, a live handle, and then the rows are written.
-use super::searches::user;
-use super::searches::vacancy;
 use acts::Found;
 use acts::Live;
 use acts::Said;
@@ -21,6 +19,8 @@ use rulebook::Sizes;
 use rulebook::Slot;
 use rulebook::Stage;
 use rulebook::Task;
+use work::searches::user;
+use work::searches::vacancy;
 ghost use mathlib.Core.Path.{_≡_};
 ghost use Prim.Native.Nat.{_%_, _<_};
 ghost use Rattle.acts.specs.Plans.{getOn, liveIn, newOn, pageOn, planGet, planNew, planPage, planRelease, planSet, readyIn, reservesFor, setAt, setOn, vacantIn};

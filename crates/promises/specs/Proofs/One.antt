@@ -32,7 +32,7 @@ use Rattle.rulebook.specs.Lists.{listTo-get, listTo-length}
 use Rattle.rulebook.specs.Sizes.{blockWords, opens}
 use Rattle.rulebook.specs.State.{listTo}
 use Rattle.rulebook.specs.Tests.{by-test}
-use Rattle.store.specs.Reach.{get-reaches, new-reaches, page-reaches, release-reaches, set-reaches, step-reaches}
+use Rattle.work.specs.Reach.{get-reaches, new-reaches, page-reaches, release-reaches, set-reaches, step-reaches}
 use Rattle.promises.specs.Promises.{AnswerLength, AnswerRest, PoolLength, PoolRest, RefusalKeeps, RefusalZeros, ShortSlice}
 use Rattle.promises.specs.Proofs.Calls.{heard, spoken-case, spoken-long, spoken-short, telling}
 use Rattle.promises.specs.Proofs.Refusals.{Fair, get-fair, new-fair, page-fair, release-fair, set-fair, step-fair}

@@ -1,0 +1,17 @@
+use Rattle.work.specs.Works.{lasts}
+use borrow.Author.Needs.{needs}
+use Rattle.work.proofs.news.fill_last.Statement.{statement}
+use Rattle.work.proofs.news.fill_last.Tie as tie
+
+pub fill-last-spec : {M : Type 1} → statement M
+fill-last-spec =
+    tie.close
+    (tie.spec
+    (λ c κs. search (needs, lasts))
+    (λ c κs. search (needs, lasts))
+    (λ c κs. search (needs, lasts))
+    (λ c. search (needs, lasts))
+    (λ c. search (needs, lasts))
+    (λ c κs. search (needs, lasts))
+    (λ c. search (needs, lasts))
+    (λ c. search (needs, lasts)))

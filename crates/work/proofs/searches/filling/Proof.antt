@@ -1,0 +1,30 @@
+use Prim.Native.Nat.{_-_, _≤_}
+use mathlib.Core.Path.{_≡_}
+use Rattle.acts.specs.declared.Found.the-variants.{None}
+use Rattle.acts.specs.Plans.{fillsAt, firstOf}
+use Rattle.pool.specs.Pool.{sight}
+use Rattle.work.specs.Scans.{scans}
+use borrow.Author.Needs.{needs}
+use Rattle.work.proofs.searches.filling.Statement.{statement}
+use Rattle.work.proofs.searches.filling.Tie as tie
+
+abbrev Inv-loop : tie.InvT-loop
+Inv-loop words d b t₀ t = (t ≤ d .t) × (firstOf (fillsAt (sight words d) b) t ≡ None)
+
+abbrev μ-loop : tie.MeasureT-loop
+μ-loop words d b t₀ t = d .t - t
+
+pub filling-spec : {M : Type 1} → statement M
+filling-spec =
+    tie.close
+    (tie.spec
+    Inv-loop
+    μ-loop
+    (λ c. search (needs, scans))
+    (λ c κs. search (needs, scans))
+    (λ c κs. search (needs, scans))
+    (λ c. search (needs, scans))
+    (λ c. search (needs, scans))
+    (λ c. search (needs, scans))
+    (λ c. search (needs, scans))
+    (λ c. search (needs, scans)))

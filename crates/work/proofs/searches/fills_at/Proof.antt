@@ -1,0 +1,12 @@
+use Rattle.work.specs.Scans.{rows}
+use borrow.Author.Needs.{needs}
+use Rattle.work.proofs.searches.fills_at.Statement.{statement}
+use Rattle.work.proofs.searches.fills_at.Tie as tie
+
+pub fills-at-spec : {M : Type 1} → statement M
+fills-at-spec =
+    tie.close
+    (tie.spec
+    (λ c κs. search (needs, rows))
+    (λ c κs. search (needs, rows))
+    (λ c. search (needs, rows)))

@@ -1,0 +1,9 @@
+pub mod Asked
+pub mod Scans
+pub mod Reach
+pub mod Stepped
+pub mod Seen
+pub mod Stages
+pub mod Works
+pub mod News
+pub mod Sets
