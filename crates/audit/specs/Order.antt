@@ -137,7 +137,7 @@ module _ (p : List ℕ) (h : Header) (m : h ≡ headerOf p) where
           pub check-whole : not b ≡ false → 0 ≡ brokenIn p
           check-whole q = ap (λ (x : Bool). if x then 7 else 0) (sym q ∙ ap not g) ∙ last ∙ of-rest
 
--- what rule 7's function asks for
+-- what the functions of rules 5 to 7 ask for
 module _ (d : Sizes) (p : List ℕ) (r : ℕ) (e : r ≡ brokenLogs d p) (o : r ≡ 0) where
   pub check-two : Rule2 d p
   unfolding brokenLogs

@@ -2,7 +2,7 @@
 use super::seven::rule_seven;
 use pool::Header;
 use rulebook::Sizes;
-use survey::handles::all_apart;
+use survey::apart::all_apart;
 use survey::handles::all_stand;
 use survey::holds::all_held_once;
 use survey::stands::mark_stood;
@@ -11,6 +11,7 @@ use survey::walk::logs_hold;
 ghost use mathlib.Core.Path.{_≡_};
 ghost use Rattle.pool.specs.Places.{Spans};
 ghost use Rattle.survey.specs.Broken.{brokenIn, brokenLogs, brokenRows};
+ghost use Rattle.survey.specs.Rules.{Rule2};
 ghost use Rattle.survey.specs.Stands.{Marked};
 
 const MOST_BLOCKS: usize = 256;
@@ -32,9 +33,9 @@ fn logs_broken(words: &[u32], d: Sizes, stood: &[u32]) -> u32
     0
 }
 
-// Rules 5 and 6: the rows.
+// Rules 5 and 6: the rows, where rule 2 holds.
 fn rows_broken(words: &[u32], d: Sizes) -> u32
-    requires { ⌜ Spans d (now words) ⌝ }
+    requires { ⌜ Spans d (now words) × Rule2 d (now words) ⌝ }
     ensures { λ r. ⌜ r ≡ brokenRows d (now (words .entry)) ⌝ }
 {
     if !all_apart(words, d) {

@@ -58,7 +58,7 @@ module _ (d : Sizes) (p : List ℕ) where
       (λ q. ltb-true t (d .t) q)
       (λ q. absurd (false≢true (sym e ∙ ap (λ (x : Task). g (x .stage)) (sym (task-beyond t (ltb-false t (d .t) q))) ∙ h)))
 
-  live-below : (j : ℕ) → Lives d p j → j < d .h
+  pub live-below : (j : ℕ) → Lives d p j → j < d .h
   live-below j l = slot-below isLive refl j (ap isLive l)
 
   -- ---- every live handle, every task at some stages

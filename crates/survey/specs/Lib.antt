@@ -11,3 +11,5 @@ pub mod Logs
 pub mod Walk
 pub mod Ways
 pub mod Tally
+pub mod Chains
+pub mod Apart

@@ -21,7 +21,7 @@ use Rattle.pool.specs.View.{view-block-at, view-slot-at, view-task-at}
 use Rattle.rulebook.specs.State.{Block, blockAt, fills, isLive, names, reserves}
 use Rattle.rulebook.specs.Tests.{by-test}
 use Rattle.theorems.specs.Terms.{allTo}
-use Rattle.survey.specs.Broken.{clearOf, freshApart, freshAt, isReserved, namedAt, offTarget, ownerAt, ownsAt, rule2, rule2At, rule5, rule5At, rule6, rule6At, standsAs, targetApart, targetAt}
+use Rattle.survey.specs.Broken.{freshApart, freshAt, isReserved, namedAt, offTarget, ownerAt, ownsAt, rule2, rule2At, rule6, rule6At, standsAs, targetApart, targetAt}
 use Rattle.survey.specs.Decide.{all-at, someTo}
 use Rattle.survey.specs.Decided.{slot-beyond}
 use Rattle.survey.specs.Reads.{some-end, some-on, some-start, some-stop, versionSeen}
@@ -50,11 +50,7 @@ module _ (d : Sizes) (p : List ℕ) (r : Bool) where
   unfolding rule2
   two-is e = e
 
-  pub five-is : r ≡ allTo (rule5At d p) (d .h) → r ≡ rule5 d p
-  unfolding rule5
-  five-is e = e
-
-pub ruleset loops = (all-start, all-on, all-stop, all-end, some-start, some-on, some-stop, some-end, two-is, five-is)
+pub ruleset loops = (all-start, all-on, all-stop, all-end, some-start, some-on, some-stop, some-end, two-is)
 
 -- ---- a row as it lies is the state's
 
@@ -65,7 +61,7 @@ module _ (d : Sizes) (p : List ℕ) where
   pub task-as : (t : ℕ) (k : Task) → k ≡ taskRead (taskPart p d t) → t < d .t → task d p t ≡ k
   task-as t k e l = view-task-at d p t l ∙ sym e
 
-  -- ---- rules 2 and 5
+  -- ---- rule 2
 
   pub version-here : Spans d p → (k : ℕ) → k < d .b → (v : ℕ) → v ≡ versionSeen (versionIn (d .n) (blockPart p d k)) → blockAt (shown d p) k .version ≡ v
   unfolding versionIn
@@ -97,34 +93,7 @@ module _ (d : Sizes) (p : List ℕ) where
           unfolding rule2At
           two-last m = rw (slot-as j x e l, ← f, not-false b q, lt-ltb (x .block) (d .b) o, version-here sp (x .block) o v g, le-leb (x .number) v i, le-leb (x .number) (d .n) m)
 
-    module _ (y : Slot) (i : ℕ) where
-      pub clear-dead : not b ≡ true → true ≡ clearOf d p y i j
-      unfolding clearOf
-      clear-dead q = rw (slot-as j x e l, ← f, not-true b q)
-
-      module _ (q : not b ≡ false) where
-        pub clear-block : (y .block ≡ x .block → ⊥) → true ≡ clearOf d p y i j
-        unfolding clearOf
-        clear-block o = rw (slot-as j x e l, ← f, not-false b q, ne-eqb (y .block) (x .block) o)
-
-        module _ (o : y .block ≡ x .block) where
-          pub clear-number : (y .number ≡ x .number → ⊥) → true ≡ clearOf d p y i j
-          unfolding clearOf
-          clear-number m = rw (slot-as j x e l, ← f, not-false b q, eq-eqb (y .block) (x .block) o, ne-eqb (y .number) (x .number) m)
-
-          pub clear-last : y .number ≡ x .number → eqb i j ≡ clearOf d p y i j
-          unfolding clearOf
-          clear-last m = rw (slot-as j x e l, ← f, not-false b q, eq-eqb (y .block) (x .block) o, eq-eqb (y .number) (x .number) m)
-
-    pub alone-dead : not b ≡ true → true ≡ rule5At d p j
-    unfolding rule5At
-    alone-dead q = rw (slot-as j x e l, ← f, not-true b q)
-
-    pub alone-live : not b ≡ false → (r : Bool) → r ≡ allTo (clearOf d p x j) (d .h) → r ≡ rule5At d p j
-    unfolding rule5At
-    alone-live q r g = g ∙ rw (slot-as j x e l, ← f, not-false b q)
-
-pub ruleset handles = (two-dead, two-far, two-low, two-high, two-last, clear-dead, clear-block, clear-number, clear-last, alone-dead, alone-live)
+pub ruleset handles = (two-dead, two-far, two-low, two-high, two-last)
 
 -- ---- rule 6
 
