@@ -555,11 +555,28 @@ static void damaged_rows(void) {
     damaged(TASK_1, 60, CALL(START_GET, 1, 256, 0));
     damaged(TASK_1, 60, CALL(RELEASE, 257));
     damaged(SLOT_0 + 1, 3, CALL(START_GET, 0, 256, 0));
-    damaged(SLOT_0 + 2, 2, CALL(START_SET, 0, 256, 0, 1));
-    damaged(SLOT_0 + 2, 2, CALL(START_PAGE, 0, 256, 0, 1));
     damaged(SLOT_0 + 1, 3, CALL(START_NEW, 0, 1));
     damaged(SLOT_0 + 1, 3, CALL(REPORT));
     damaged(SLOT_0 + 1, 3, CALL(LOOK_VERSION, 0));
+    end_case();
+}
+
+/* a number that points outside is met where a step goes by it: a block, a cell, a slot */
+static void damaged_numbers(void) {
+    begin_case("2 of a number that points outside");
+    two_tables();
+    pool[SLOT_0 + 2] = 2;
+    quiet(CALL(START_PAGE, 0, 256, 0, 1));
+    refuses(CALL(STEP, 0), 2);
+    one_table();
+    quiet(CALL(START_SET, 0, 256, 0, 1));
+    damaged(TASK_0 + 2, 2, CALL(STEP, 0));
+    steps(0, 1);
+    damaged(TASK_0 + 4, 2, CALL(STEP, 0));
+    steps(0, 2);
+    damaged(TASK_0 + 7, UINT32_MAX, CALL(STEP, 0));
+    damaged(TASK_0 + 4, UINT32_MAX, CALL(STEP, 0));
+    ANSWERS(CALL(STEP, 0), 2, 4, 257);
     end_case();
 }
 
@@ -603,6 +620,7 @@ int main(void) {
     layout_rules();
 #ifndef WINCH_IS_PLAIN
     damaged_rows();
+    damaged_numbers();
     damaged_logs();
 #endif
     return summary();

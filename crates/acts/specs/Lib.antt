@@ -1,5 +1,6 @@
 pub mod Sight
 pub mod Plans
+pub mod StepPlans
 pub mod Looks
 pub mod Acted
 pub mod Ways

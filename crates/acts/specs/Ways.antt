@@ -2,22 +2,46 @@
 -- Rests on Plans.
 use Prim.Native.Nat.{_+_, _<_, _≤_, ℕ}
 use mathlib.Core.Bool.{true}
-use mathlib.Core.Path.{_∙_, _≡_}
+use mathlib.Core.Path.{_∙_, _≡_, sym}
+use native.Mathlib.Omega.{arith}
 use borrow.Author.Tests.{eq-eqb, le-leb, le-ltb, lt-leb, lt-ltb, ne-eqb}
 use Rattle.rulebook.specs.declared.Entry.{Entry}
 use Rattle.rulebook.specs.declared.Hand.{Hand}
 use Rattle.rulebook.specs.declared.Slot.{Slot}
 use Rattle.rulebook.specs.declared.Stage.{Stage}
+use Rattle.rulebook.specs.declared.Task.{Task}
 use Rattle.rulebook.specs.History.{fresh}
 use Rattle.rulebook.specs.Sizes.{slotOf}
 use Rattle.rulebook.specs.State.{handOf, idle}
 use Rattle.rulebook.specs.Steps.{middle, probedAt}
 use Rattle.acts.specs.declared.Reader.{Reader}
 use Rattle.rulebook.specs.declared.Reading.{Reading}
-use Rattle.acts.specs.Plans.{stageFor, begunOn, maker}
+use Rattle.acts.specs.Plans.{after, begunOn, lastWord, maker, ticked}
+use Rattle.acts.specs.StepPlans.{stageFor}
 use Rattle.rulebook.specs.declared.Stage.the-variants as stage
 
 pub ruleset tests = (le-leb, lt-leb, le-ltb, lt-ltb, eq-eqb, ne-eqb)
+
+-- ---- counting
+
+pub after-last : (x : ℕ) → x ≡ lastWord → 0 ≡ after x
+unfolding after
+after-last x e = rw (eq-eqb x lastWord e)
+
+pub after-next : (x : ℕ) → (x ≡ lastWord → ⊥) → x + 1 ≡ after x
+unfolding after
+after-next x e = rw (ne-eqb x lastWord e)
+
+pub tick-is : (k : Task) (s : ℕ) → s ≡ after (k .steps)
+    → record { stage = k .stage; slot = k .slot; block = k .block; number = k .number; cell = k .cell; value = k .value; until = k .until; fresh = k .fresh; target = k .target; hand = k .hand; steps = s } ≡ ticked k
+unfolding ticked
+tick-is k s e = rw e
+
+-- a number that is not the last
+pub after-small : {x : ℕ} → x < lastWord → after x ≡ x + 1
+after-small {x} h = sym (after-next x (λ e. omega arith))
+
+pub ruleset counts = (after-last, after-next, tick-is)
 
 -- ---- tasks
 

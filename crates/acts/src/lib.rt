@@ -12,7 +12,7 @@ use rulebook::Slot;
 use rulebook::Stage;
 use rulebook::Task;
 
-// A row as it was read: a number in it lies outside its range, or it is a slot or a task.
+// A row as it was read: it is bad, or it is a slot or a task.
 pub enum SlotRow {
     Bad,
     Row(Slot),
@@ -23,7 +23,7 @@ pub enum TaskRow {
     Row(Task),
 }
 
-// A task's stage as it was read, or that its row is bad.
+// The stage whose code was read, or that there is none.
 pub enum StageRow {
     Bad,
     At(Stage),
@@ -61,8 +61,9 @@ pub enum Reader {
     Page,
 }
 
-// An answer as C reads it: the refusal number, and its numbers in their order.
+// An answer as C reads it: whether all its numbers are 0, the refusal number, and its numbers in their order.
 pub struct Said {
+    pub silent: bool,
     pub refusal: u32,
     pub first: u32,
     pub second: u32,

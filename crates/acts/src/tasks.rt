@@ -8,9 +8,10 @@ use rulebook::Status;
 use rulebook::Task;
 ghost use mathlib.Core.Path.{_≡_};
 ghost use Prim.Native.Nat.{_<_};
-ghost use Rattle.rulebook.specs.State.{freed, handOf, idle, isLive, isFree, busy, names, fills};
-ghost use Rattle.rulebook.specs.Steps.{moved, aimed, counted, answer, guessed, searching};
-ghost use Rattle.acts.specs.Plans.{reservedAs, stageFor};
+ghost use Rattle.rulebook.specs.State.{freed, handOf, idle, isLive, isFree, names, fills};
+ghost use Rattle.rulebook.specs.Steps.{moved, aimed, answer, guessed, searching};
+ghost use Rattle.acts.specs.Plans.{after, reservedAs, ticked};
+ghost use Rattle.acts.specs.StepPlans.{stageFor};
 
 // A get of cell i that has read nothing.
 pub fn hand_of(i: u32) -> Hand
@@ -74,13 +75,22 @@ pub fn aimed(k: Task, b: u32) -> Task
     r
 }
 
+// One more, as 32 bits count.
+pub fn after(x: u32) -> u32
+    ensures { λ r. ⌜ r ≡ after x ⌝ }
+{
+    if x == 4294967295 {
+        return 0;
+    }
+    x + 1
+}
+
 // The task with one step more.
-pub fn counted(k: Task) -> Task
-    requires { ⌜ k .steps < 4294967295 ⌝ }
-    ensures { λ r. ⌜ r ≡ counted k ⌝ }
+pub fn ticked(k: Task) -> Task
+    ensures { λ r. ⌜ r ≡ ticked k ⌝ }
 {
     let mut r = k;
-    r.steps = k.steps + 1;
+    r.steps = after(k.steps);
     r
 }
 
@@ -172,26 +182,6 @@ pub fn is_free(x: Status) -> bool
         Status::Free => true,
         Status::Reserved => false,
         Status::Live => false,
-    }
-}
-
-pub fn is_busy(g: Stage) -> bool
-    ensures { λ r. ⌜ r ≡ busy g ⌝ }
-{
-    match g {
-        Stage::Idle => false,
-        Stage::TakeNew => true,
-        Stage::FillNew => true,
-        Stage::Getting(_) => true,
-        Stage::Exchange => true,
-        Stage::Read => true,
-        Stage::Append => true,
-        Stage::Write => true,
-        Stage::TakeCopy => true,
-        Stage::Copying(_) => true,
-        Stage::FillCopy => true,
-        Stage::Put => true,
-        Stage::Paging(_) => true,
     }
 }
 

@@ -20,7 +20,7 @@ use Rattle.rulebook.specs.Sizes.{lastSerial}
 use Rattle.rulebook.specs.State.{names}
 use Rattle.rules.specs.Paced.{Paced, TaskRange}
 use Rattle.survey.specs.Broken.{factsAt, fillsTo, getsIn, interior, onCell, onHand, taskHolds, toAppend, toWrite, unspent}
-use Rattle.survey.specs.Reads.{versionSeen}
+use Rattle.survey.specs.Reads.{versionShown}
 use Rattle.survey.specs.Rules.{Readable, Rule3, Rule6, shown, task}
 use Rattle.survey.specs.Ways.{slot-as, task-as, version-here}
 use Rattle.rulebook.specs.declared.Stage.the-variants as stage
@@ -145,7 +145,7 @@ module _ (d : Sizes) (p : List ℕ) where
         put-spent = rw (← e, not-true a q)
 
       module _ (q : not a ≡ false) where
-        pub take-copy-last : (v : ℕ) → v ≡ versionSeen (versionIn (d .n) (blockPart p d (k .block))) → ltb (k .number) v ≡ doneAt stage.TakeCopy k
+        pub take-copy-last : (v : ℕ) → v ≡ versionShown (versionIn (d .n) (blockPart p d (k .block))) → ltb (k .number) v ≡ doneAt stage.TakeCopy k
         unfolding doneAt
         take-copy-last v g = rw (← e, not-false a q, on-cell, version-here d p (s .spans) (k .block) (s .block) v g)
 

@@ -24,7 +24,7 @@ use Rattle.pool.specs.View.{view-block-at}
 use Rattle.rulebook.specs.State.{Block, blockAt, logAt}
 use Rattle.theorems.specs.Terms.{allTo, versionAt}
 use Rattle.survey.specs.Broken.{getsIn, seeksIn}
-use Rattle.survey.specs.Reads.{lengthSeen, stampSeen}
+use Rattle.survey.specs.Reads.{lengthShown, stampShown}
 use Rattle.survey.specs.Rules.{Readable, shown}
 use Rattle.block.specs.declared.Looked.the-variants as looked
 use Rattle.rulebook.specs.declared.Reading.the-variants as reading
@@ -62,14 +62,14 @@ module _ (d : Sizes) (p : List ℕ) where
     unfolding logIn
     long-as = ap (λ (b : Block). length (logAt b i)) (view-block-at d p k (g .block)) ∙ log-length-at (d .n) (blockPart p d k) i (g .cell)
 
-    pub log-length : (m : ℕ) → m ≡ lengthSeen (lengthIn (d .n) (blockPart p d k) i) → m ≡ length (logIn k i)
-    log-length m e = e ∙ ap lengthSeen length-reads ∙ sym long-as
+    pub log-length : (m : ℕ) → m ≡ lengthShown (lengthIn (d .n) (blockPart p d k) i) → m ≡ length (logIn k i)
+    log-length m e = e ∙ ap lengthShown length-reads ∙ sym long-as
 
-    module _ (j : ℕ) (l : j < length (logIn k i)) (at : ℕ) (e : at ≡ stampSeen (entryIn (d .n) (blockPart p d k) i j)) where
+    module _ (j : ℕ) (l : j < length (logIn k i)) (at : ℕ) (e : at ≡ stampShown (entryIn (d .n) (blockPart p d k) i j)) where
       in-log : j < lengthOf (d .n) (blockPart p d k) i
       in-log = let z = long-as in omega arith
 
-      seen-as : stampSeen (entryIn (d .n) (blockPart p d k) i j) ≡ entryOf (d .n) (blockPart p d k) (placeOf (d .n) (blockPart p d k) i j) .version
+      seen-as : stampShown (entryIn (d .n) (blockPart p d k) i j) ≡ entryOf (d .n) (blockPart p d k) (placeOf (d .n) (blockPart p d k) i j) .version
       unfolding entryIn entryUnder
       seen-as =
           rw (length-reads, lt-ltb j (lengthOf (d .n) (blockPart p d k) i) in-log, lt-ltb (placeOf (d .n) (blockPart p d k) i j) (arena (d .n)) (g .logs .inside i j (g .cell) in-log))
@@ -91,7 +91,7 @@ module _ (d : Sizes) (p : List ℕ) where
       unfolding candidateIn
       candidate-far l = rw (le-ltb (w .hi) (length (logIn k i)) (omega arith))
 
-      module _ (l : w .hi < m) (at : ℕ) (f : at ≡ stampSeen (entryIn (d .n) (blockPart p d k) i (w .hi))) where
+      module _ (l : w .hi < m) (at : ℕ) (f : at ≡ stampShown (entryIn (d .n) (blockPart p d k) i (w .hi))) where
         here : w .hi < length (logIn k i)
         here = omega arith
 
@@ -105,7 +105,7 @@ module _ (d : Sizes) (p : List ℕ) where
 
     -- ---- the search
 
-    module _ (L : ℕ) (w : Hand) (a : w .lo < w .hi) (m : ℕ) (e : m ≡ lengthSeen (lengthIn (d .n) (blockPart p d k) i)) where
+    module _ (L : ℕ) (w : Hand) (a : w .lo < w .hi) (m : ℕ) (e : m ≡ lengthShown (lengthIn (d .n) (blockPart p d k) i)) where
       pub seeks-far : m < w .hi → false ≡ seeksIn (logIn k i) L w
       unfolding seeksIn
       seeks-far l = let z = log-length m e in rw (lt-ltb (w .lo) (w .hi) a, lt-leb (w .hi) (length (logIn k i)) (omega arith))

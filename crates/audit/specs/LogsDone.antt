@@ -25,7 +25,7 @@ use Rattle.theorems.specs.Terms.{allTo, entries, versionAt}
 use Rattle.survey.specs.Broken.{allBelow, everyEntry, fillsTo, toAppend, toWrite}
 use Rattle.survey.specs.Decide.{_implies_, someTo}
 use Rattle.survey.specs.Logs.{stampOf}
-use Rattle.survey.specs.Reads.{lengthSeen, outside, some-end, some-on, some-start, some-stop, stampSeen, versionSeen}
+use Rattle.survey.specs.Reads.{lengthShown, outside, some-end, some-on, some-start, some-stop, stampShown, versionShown}
 use Rattle.survey.specs.Rules.{Readable, shown}
 use Rattle.survey.specs.Tally.{Counts, counts-spans, length-is, length-reads}
 use Rattle.survey.specs.Ways.{all-end, all-on, all-start, all-stop, version-here}
@@ -66,7 +66,7 @@ module _ (d : Sizes) (p : List ℕ) (k : ℕ) where
   -- ---- a log is empty
 
   -- a length above N is not 0, and is not read as 0
-  pub log-empty : Spans d p → k < d .b → (i : ℕ) → i < d .n → (m : ℕ) → m ≡ lengthSeen (lengthIn (d .n) (blockPart p d k) i) → eqb m 0 ≡ emptyAt i
+  pub log-empty : Spans d p → k < d .b → (i : ℕ) → i < d .n → (m : ℕ) → m ≡ lengthShown (lengthIn (d .n) (blockPart p d k) i) → eqb m 0 ≡ emptyAt i
   unfolding emptyAt lengthIn
   log-empty sp b i l m e =
       by-test (leb (wordOf i) (d .n))
@@ -81,11 +81,11 @@ module _ (d : Sizes) (p : List ℕ) (k : ℕ) where
 
   -- ---- the entries of a log that can be read
 
-  module _ (s : Counts d p k) (v i : ℕ) (l : i < d .n) (m : ℕ) (e : m ≡ lengthSeen (lengthIn (d .n) (blockPart p d k) i)) where
+  module _ (s : Counts d p k) (v i : ℕ) (l : i < d .n) (m : ℕ) (e : m ≡ lengthShown (lengthIn (d .n) (blockPart p d k) i)) where
     long : length (logIn i) ≡ m
     long = log-long (s .below) i l ∙ sym (length-is d p k s i l m e)
 
-    module _ (q : ℕ) (o : q < m) (at : ℕ) (g : at ≡ stampSeen (entryIn (d .n) (blockPart p d k) i q)) where
+    module _ (q : ℕ) (o : q < m) (at : ℕ) (g : at ≡ stampShown (entryIn (d .n) (blockPart p d k) i q)) where
       in-log : q < wordOf i
       in-log = let z = length-is d p k s i l m e in omega arith
 
@@ -195,7 +195,7 @@ module _ (d : Sizes) (p : List ℕ) (k : Task) where
   unfolding viewOf
   target-low = lt-ltb (k .target) (d .b)
 
-  module _ (c : ℕ) (sp : Spans d p) (b : k .target < d .b) (v : ℕ) (e : v ≡ versionSeen (versionIn (d .n) (blockPart p d (k .target)))) where
+  module _ (c : ℕ) (sp : Spans d p) (b : k .target < d .b) (v : ℕ) (e : v ≡ versionShown (versionIn (d .n) (blockPart p d (k .target)))) where
     pub fills-old : (v ≡ 0 → ⊥) → false ≡ fillsTo (shown d p) c k
     unfolding fillsTo
     fills-old o = rw (target-low b, version-here d p sp (k .target) b v e, ne-eqb v 0 o)

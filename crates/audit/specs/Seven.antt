@@ -29,7 +29,7 @@ use Rattle.survey.specs.Broken.{laidAt, laidIn, notAbove, slotHolds, slotSound,
 use Rattle.survey.specs.Decide.{same}
 use Rattle.survey.specs.DecideBlocks.{laid-decides}
 use Rattle.survey.specs.DecideTasks.{live-decides, slot-decides}
-use Rattle.survey.specs.Reads.{versionSeen}
+use Rattle.survey.specs.Reads.{versionShown}
 use Rattle.survey.specs.Rules.{Lives, Rule2, shown, slot}
 use Rattle.survey.specs.Ways.{slot-as, task-as, version-here}
 use Rattle.acts.specs.declared.SlotRow.the-variants as slotrow
@@ -67,7 +67,7 @@ module _ (d : Sizes) (p : List ℕ) where
       pub writer-next : Spans d p → k .number + 1 < 4294967296
       writer-next sp = let z = in-range .number-within in let y = sp .cells in omega arith
 
-      module _ (sp : Spans d p) (q : not b ≡ false) (v : ℕ) (g : v ≡ versionSeen (versionIn (d .n) (blockPart p d (k .block)))) where
+      module _ (sp : Spans d p) (q : not b ≡ false) (v : ℕ) (g : v ≡ versionShown (versionIn (d .n) (blockPart p d (k .block)))) where
         pub writer-low : (v ≡ k .number + 1 → ⊥) → false ≡ writerAt d p t
         unfolding writerAt
         writer-low o = rw (task-as d p t k e l, ← f, not-false b q, version-here d p sp (k .block) writer-block v g, ne-eqb v (k .number + 1) o)

@@ -1,6 +1,6 @@
 -- From a sight that shows a state every call plans what it plans from the state itself.
 -- Rests on Shown, and for a step on the rules and ranges of its task.
-use Prim.Native.Nat.{_+_, _<_, ℕ}
+use Prim.Native.Nat.{_<_, ℕ}
 use mathlib.Core.Bool.{not, true}
 use mathlib.Core.Path.{_∙_, _≡_, ap, ap₂, refl, subst⁻¹}
 use lib.Dec.{eqb, leb, ltb}
@@ -18,11 +18,12 @@ use Rattle.rulebook.specs.declared.Sizes.{Sizes}
 use Rattle.rulebook.specs.declared.Slot.{Slot}
 use Rattle.rulebook.specs.declared.Stage.{Stage}
 use Rattle.rulebook.specs.declared.Task.{Task}
-use Rattle.acts.specs.Plans.{begunOn, copyGoes, filler, fillerIn, fillsAt, fillsNew, finishes, firstOf, freeAt, freeIn, getGoes, getOn, givesUp, goes, holderIn, liveIn, maker, namesAt, naming, newOn, orElse, pageGoes, pageOn, planAt, planGet, planNew, planPage, planRelease, planRow, planSet, planStep, puts, readEntry, readGuess, readIn, readLength, readVersion, readsOld, readyIn, refused, releaseAt, releaseOn, reservesFor, setAt, setOn, standerIn, standing, standsAt, takes, unheld, userIn, vacant, vacantAt, vacantIn, writesNew}
+use Rattle.acts.specs.Plans.{after, begunOn, filler, fillerIn, fillsAt, firstOf, freeAt, freeIn, getOn, goes, holderIn, liveIn, maker, namesAt, naming, newOn, orElse, pageOn, planGet, planNew, planPage, planRelease, planSet, readyIn, refused, releaseAt, releaseOn, reservesFor, setAt, setOn, standerIn, standing, standsAt, ticked, unheld, userIn, vacant, vacantAt, vacantIn}
+use Rattle.acts.specs.StepPlans.{copyGoes, fillsNew, finishes, getGoes, givesUp, pageGoes, planAt, planRow, planStep, puts, readEntry, readGuess, readIn, readLength, readVersion, readsOld, takes, writesNew}
 use Rattle.acts.specs.Sight.{Sight, sightOf}
 use Rattle.rulebook.specs.Sizes.{if_then_else_, slotOf}
 use Rattle.rulebook.specs.State.{State, freeSlot, handOf, names, stood, taskAt}
-use Rattle.rulebook.specs.Steps.{counted, moved}
+use Rattle.rulebook.specs.Steps.{moved}
 use Rattle.rulebook.specs.Tests.{by-test, if-case}
 use Rattle.rules.specs.Facts.{Doing, a-copy, a-get, a-page, doing-names, probes-inside}
 use Rattle.rules.specs.Paced.{Paced, TaskRange}
@@ -152,13 +153,13 @@ module _ {e : Sight} {s : State} (W : Shows e s) (sh : Shape s) where
 
   module _ (r : Rules s) (p : Paced s) (t : ℕ) where
     abbrev k : Task
-    k = counted (taskAt s t)
+    k = ticked (taskAt s t)
 
     abbrev range : TaskRange (s .sizes) (taskAt s t)
     range = p .tasks t
 
     read-alike : (x : Reading) {g : Stage} → Doing x g → taskAt s t .stage ≡ g → readIn x e k ≡ readIn x f k
-    unfolding readIn sightOf counted
+    unfolding readIn sightOf ticked
     read-alike reading.Guess o q = ap (λ (z : Looked). readGuess z (k .hand)) (W .cell _ _ (range .block-below) (range .hand-below))
     read-alike reading.Version o q = ap (λ (z : Looked). readVersion z (k .number) (k .hand)) (W .version _ (range .block-below))
     read-alike reading.Length o q =
@@ -169,11 +170,11 @@ module _ {e : Sight} {s : State} (W : Shows e s) (sh : Shape s) where
 
     -- the row of the slot that it has reserved
     finish-alike : (x : Touch) (b L : ℕ) → finishes (e .slot (k .fresh)) x t k b L ≡ finishes (f .slot (k .fresh)) x t k b L
-    unfolding sightOf counted
+    unfolding sightOf ticked
     finish-alike x b L = ap (λ (y : SlotRow). finishes y x t k b L) (W .slot _ (range .fresh-below))
 
     take-on : (x : Found) (g : Stage) → takes x e t k g ≡ takes x f t k g
-    unfolding takes sightOf counted
+    unfolding takes sightOf ticked
     take-on found.Bad g = refl
     take-on (found.At b) g = refl
     take-on found.None g = ap (λ (y : SlotRow). givesUp y t k) (W .slot _ (range .fresh-below))
@@ -184,10 +185,10 @@ module _ {e : Sight} {s : State} (W : Shows e s) (sh : Shape s) where
     fill-alike : fillsNew e t k ≡ fillsNew f t k
     unfolding fillsNew sightOf
     fill-alike =
-        rw (W .sizes) (ap (λ (a : Act). if eqb (k .hand .cell + 1) (s .sizes .n) then a else goes (touch.Fill (k .target) (k .hand .cell) (k .value)) t (moved k stage.FillNew (handOf (k .hand .cell + 1))) reply.Quiet) (finish-alike _ (k .target) 0))
+        rw (W .sizes) (ap (λ (a : Act). if eqb (after (k .hand .cell)) (s .sizes .n) then a else goes (touch.Fill (k .target) (k .hand .cell) (k .value)) t (moved k stage.FillNew (handOf (after (k .hand .cell)))) reply.Quiet) (finish-alike _ (k .target) 0))
 
     at-alike : (g : Stage) → taskAt s t .stage ≡ g → planAt g e t k ≡ planAt g f t k
-    unfolding planAt counted
+    unfolding planAt ticked
     at-alike stage.Idle q = refl
     at-alike stage.TakeNew q = take-alike stage.FillNew
     at-alike stage.FillNew q = fill-alike
@@ -195,7 +196,7 @@ module _ {e : Sight} {s : State} (W : Shows e s) (sh : Shape s) where
     at-alike stage.Exchange q = unfold sightOf in rw (W .sizes, W .version _ (range .block-below))
     at-alike stage.Read q = unfold sightOf in ap (λ (z : Looked). readsOld z t k) (W .cell _ _ (range .block-below) (range .cell-below))
     at-alike stage.Append q = refl
-    at-alike stage.Write q = unfold writesNew in finish-alike _ (k .block) (k .number + 1)
+    at-alike stage.Write q = unfold writesNew in finish-alike _ (k .block) (after (k .number))
     at-alike stage.TakeCopy q = take-alike (stage.Copying reading.Guess)
     at-alike (stage.Copying x) q = ap (λ (z : Read). copyGoes z t k) (read-alike x a-copy q)
     at-alike stage.FillCopy q = unfold sightOf in rw (W .sizes)

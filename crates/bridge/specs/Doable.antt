@@ -24,7 +24,7 @@ use Rattle.pool.specs.Acts.{Appendable, applied-acted, applied-done, applied-ke
 use Rattle.pool.specs.Codes.{codeOf, stage-from, statusCode}
 use Rattle.pool.specs.Keeps.{Keeps, keeps-header, keeps-spans, none, slot-keeps, slot-own, task-keeps, task-own}
 use Rattle.pool.specs.Places.{Spans, blockPart, slotPart, taskPart}
-use Rattle.pool.specs.Pool.{InReach, appliedIn, putSlot, putTask, seatedIn, slotNear, taskNear, touchNear, touchedIn, turnedIn, viewOf}
+use Rattle.pool.specs.Pool.{InReach, appliedIn, putSlot, putTask, seatedIn, slotNear, taskNear, touchedIn, turnedIn, viewOf}
 use Rattle.pool.specs.Rows.{slotWords, taskRead, taskWords}
 use Rattle.pool.specs.View.{view-tasks}
 use Rattle.rulebook.specs.Lists.{any-set}
@@ -95,9 +95,9 @@ abbrev CodeIn : List ℕ → Type 0
 CodeIn w = codeOf (taskRead w .stage) ≡ getD w 0 0
 
 module _ {d : Sizes} {p : List ℕ} (g : Spans d p) (c : Coded d p) where
-  coded-touched : (x : Touch) → touchNear d x ≡ true → Coded d (touchedIn p d x .0)
-  coded-touched x h =
-      let s = touched-keeps g x h in
+  coded-touched : (x : Touch) → Coded d (touchedIn p d x .0)
+  coded-touched x =
+      let s = touched-keeps g x in
       record { statuses = λ j l. subst⁻¹ StatusIn (s .slots j l refl) (c .statuses j l); codes = λ t l. subst⁻¹ CodeIn (s .tasks t l refl) (c .codes t l) }
 
   status-words : (x : Slot) → StatusIn (slotWords x)
@@ -199,7 +199,7 @@ module _ {d : Sizes} {p : List ℕ} (S : Sound d p) (a : Act) (D : Doable d p a)
   g = spans d p S
 
   spans-touched : Spans d q
-  spans-touched = keeps-spans (touched-keeps g (a .touch) (D .reach .touch)) g
+  spans-touched = keeps-spans (touched-keeps g (a .touch)) g
 
   seated-near : Keeps d q (seatedIn q d (a .slot)) (slotNamed (a .slot)) none none
   seated-near = seated-keeps spans-touched (a .slot) (D .reach .slot)
@@ -214,7 +214,7 @@ module _ {d : Sizes} {p : List ℕ} (S : Sound d p) (a : Act) (D : Doable d p a)
 
   coded : Coded d (appliedIn p d a .0)
   coded =
-      rw (applied-done p d a (D .done)) (coded-turned spans-seated (coded-seated spans-touched (coded-touched g (record { statuses = S .statuses; codes = S .codes }) (a .touch) (D .reach .touch)) (a .slot) (D .reach .slot)) (a .task) (D .reach .task))
+      rw (applied-done p d a (D .done)) (coded-turned spans-seated (coded-seated spans-touched (coded-touched g (record { statuses = S .statuses; codes = S .codes }) (a .touch)) (a .slot) (D .reach .slot)) (a .task) (D .reach .task))
 
   seated-laid : (c : SlotChange) → Seats d p (a .touch) c → (k : ℕ) → k < d .b → any (λ (x : Slot). isLive (x .status) && eqb (x .block) k) (slotsAfter c (s .slots)) ≡ true → Laid (d .n) (wordsAfter d p (a .touch) k)
   unfolding stood

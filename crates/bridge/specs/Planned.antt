@@ -1,5 +1,5 @@
 -- On the machine's state, what a call plans is what the machine does: doing the plan gives the machine's next state and answer.
--- Rests on Searches, on the store's shape, and for a step on two facts that every sound store has of its tasks.
+-- Rests on Searches and on the store's shape; PlannedStep has the step.
 use Prim.Native.Nat.{_+_, ℕ}
 use mathlib.Core.Bool.{Bool, _&&_, _||_, false, false≢true, not, true, true≢false}
 use mathlib.Core.Path.{_∙_, _≡_, ap, refl}

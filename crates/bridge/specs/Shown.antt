@@ -1,12 +1,11 @@
 -- What a call sees of a sound pool is the machine's state that the pool shows, wherever a call looks: its rows, and the words of its blocks.
--- Rests on pool's view and ranges, on block's reads and on the rules.
-use Prim.Native.Nat.{_<_, _≤_, ℕ}
-use mathlib.Core.Bool.{false≢true, true, true≢false}
+-- Rests on pool's view, on block's reads and on the codes in the rows.
+use Prim.Native.Nat.{_<_, ℕ}
+use mathlib.Core.Bool.{false≢true, true}
 use mathlib.Core.List.{List}
 use mathlib.Core.Path.{_∙_, _≡_, ap, refl, subst, sym}
-use native.Mathlib.Omega.{arith}
 use lib.ListN.{length}
-use borrow.Author.Tests.{eq-eqb, le-leb, lt-ltb}
+use borrow.Author.Tests.{eq-eqb, lt-ltb}
 use Rattle.rulebook.specs.declared.Sizes.{Sizes}
 use Rattle.rulebook.specs.declared.Status.{Status}
 use Rattle.acts.specs.Sight.{Sight, sightOf}
@@ -14,16 +13,13 @@ use Rattle.block.specs.Reads.{cell-reads, entry-reads, length-reads, version-re
 use Rattle.block.specs.Sound.{blockOf}
 use Rattle.pool.specs.Codes.{isCode}
 use Rattle.pool.specs.Header.{headerOf}
-use Rattle.pool.specs.Places.{Spans, slotPart, taskPart}
-use Rattle.pool.specs.Pool.{sight, slotIn, taskIn, viewOf}
-use Rattle.pool.specs.Rows.{slotFits, slotRead, slotRowOf, standsIn, taskFits, taskRead, taskRowOf, worksIn}
+use Rattle.pool.specs.Places.{Spans}
+use Rattle.pool.specs.Pool.{cellSeen, entrySeen, lengthSeen, sight, slotSeen, taskSeen, versionSeen, viewOf}
+use Rattle.pool.specs.Rows.{slotSeenOf, taskRead, taskSeenOf}
 use Rattle.pool.specs.Sizing.{header-spans}
 use Rattle.pool.specs.View.{view-block-at, view-blocks, view-slot-at, view-slots, view-task-at, view-tasks}
 use Rattle.rulebook.specs.Lists.{listTo-length}
 use Rattle.rulebook.specs.State.{Block, State, blockAt, cellAt, entryAt, isLive, logAt, slotAt, stood, taskAt}
-use Rattle.rulebook.specs.Tests.{by-test}
-use Rattle.rules.specs.Facts.{live-stood}
-use Rattle.rules.specs.Paced.{paced-small}
 use Rattle.theorems.specs.Invariant.Shape.{Shape, every-listTo}
 use Rattle.bridge.specs.Sound.{Sound}
 use Rattle.pool.specs.Keeps.{block-sized}
@@ -84,49 +80,26 @@ module _ (d : Sizes) (p : List ℕ) where
 
     -- ---- rows
 
-    slot-within : (j : ℕ) → (slotAt s j .block < d .b) × (slotAt s j .number ≤ d .n)
-    unfolding viewOf
-    slot-within j =
-        by-test (isLive (slotAt s j .status))
-        (λ l. let o = live-stood s (S .rules) j (is-live _ l) in (o .in-b, o .at-most-n))
-        (λ l. let o = S .paced .slots j .nowhere (λ e. true≢false (sym (ap isLive e) ∙ l)) in (omega (arith, o .0, spans .someBlocks), omega (arith, o .1)))
+    slot-shown : (j : ℕ) → j < d .h → slotSeen p d j ≡ slotrow.Row (slotAt s j)
+    unfolding slotSeen slotSeenOf
+    slot-shown j h = rw (lt-ltb _ _ h, lt-ltb _ _ (S .statuses j h)) (ap slotrow.Row (sym (view-slot-at d p j h)))
 
-    slot-fits : (j : ℕ) → slotFits d (slotAt s j) ≡ true
-    unfolding slotFits
-    slot-fits j = rw (lt-ltb _ _ (slot-within j .0), le-leb _ _ (slot-within j .1), le-leb _ _ (S .paced .slots j .not-above))
-
-    slot-shown : (j : ℕ) → j < d .h → slotIn p d j ≡ slotrow.Row (slotAt s j)
-    unfolding slotIn slotRowOf
-    slot-shown j h =
-        let e = view-slot-at d p j h in
-        let f : slotFits d (slotRead (slotPart p j)) ≡ true = ap (slotFits d) (sym e) ∙ slot-fits j in
-        rw (lt-ltb _ _ (S .statuses j h), f) (ap slotrow.Row (sym e))
-
-    task-fits : (t : ℕ) → taskFits d (taskAt s t) ≡ true
-    unfolding taskFits standsIn worksIn viewOf
-    task-fits t =
-        let r = S .paced .tasks t in
-        rw (lt-ltb _ _ (r .slot-below), lt-ltb _ _ (r .block-below), le-leb _ _ (r .number-within), lt-ltb _ _ (r .cell-below), le-leb _ _ (r .until-within), lt-ltb _ _ (r .fresh-below), lt-ltb _ _ (r .target-below), lt-ltb _ _ (r .hand-below), lt-ltb _ _ (paced-small s (S .paced) (spans .cells) t))
-
-    task-shown : (t : ℕ) → t < d .t → taskIn p d t ≡ taskrow.Row (taskAt s t)
-    unfolding taskIn taskRowOf isCode taskRead
-    task-shown t h =
-        let e = view-task-at d p t h in
-        let f : taskFits d (taskRead (taskPart p d t)) ≡ true = ap (taskFits d) (sym e) ∙ task-fits t in
-        rw (eq-eqb _ _ (S .codes t h), f) (ap taskrow.Row (sym e))
+    task-shown : (t : ℕ) → t < d .t → taskSeen p d t ≡ taskrow.Row (taskAt s t)
+    unfolding taskSeen taskSeenOf isCode taskRead
+    task-shown t h = rw (eq-eqb _ _ (S .codes t h)) (ap taskrow.Row (sym (view-task-at d p t h)))
 
     -- ---- blocks
 
     pub sight-shows : Shows (sight p d) (viewOf d p)
-    unfolding sight viewOf
+    unfolding sight versionSeen cellSeen lengthSeen entrySeen viewOf
     sight-shows = record {
       sizes = refl;
       slot = slot-shown;
       task = task-shown;
-      version = λ b h. version-reads (block-sized spans b h) ∙ ap (λ (x : Block). looked.Word (x .version)) (sym (view-block-at d p b h));
-      cell = λ b i h q. cell-reads i q (block-sized spans b h) ∙ ap (λ (x : Block). looked.Word (cellAt x i)) (sym (view-block-at d p b h));
-      log = λ b i h q l. length-reads i q (S .stood-laid b h l) ∙ ap (λ (x : Block). looked.Word (length (logAt x i))) (sym (view-block-at d p b h));
+      version = λ b h. rw (lt-ltb _ _ h) (version-reads (block-sized spans b h) ∙ ap (λ (x : Block). looked.Word (x .version)) (sym (view-block-at d p b h)));
+      cell = λ b i h q. rw (lt-ltb _ _ h) (cell-reads i q (block-sized spans b h) ∙ ap (λ (x : Block). looked.Word (cellAt x i)) (sym (view-block-at d p b h)));
+      log = λ b i h q l. rw (lt-ltb _ _ h) (length-reads i q (S .stood-laid b h l) ∙ ap (λ (x : Block). looked.Word (length (logAt x i))) (sym (view-block-at d p b h)));
       entry = λ b i j h q l m.
           let e = view-block-at d p b h in
-          entry-reads i q (S .stood-laid b h l) j (subst (λ (x : Block). j < length (logAt x i)) e m) ∙ ap (λ (x : Block). probed.Found (entryAt (logAt x i) j)) (sym e);
+          rw (lt-ltb _ _ h) (entry-reads i q (S .stood-laid b h l) j (subst (λ (x : Block). j < length (logAt x i)) e m) ∙ ap (λ (x : Block). probed.Found (entryAt (logAt x i) j)) (sym e));
     }

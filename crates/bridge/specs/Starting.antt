@@ -22,7 +22,7 @@ use Rattle.acts.specs.Plans.{answers, ends, getOn, goes, liveIn, liveRow, newOn
 use Rattle.acts.specs.Sight.{Sight, sightOf}
 use Rattle.pool.specs.Calls.{calledIn, releaseIn, startGetIn, startNewIn, startPageIn, startSetIn}
 use Rattle.pool.specs.Header.{headerOf}
-use Rattle.pool.specs.Pool.{appliedIn, sight, slotNear, taskNear, touchNear, touchedIn, viewOf}
+use Rattle.pool.specs.Pool.{appliedIn, sight, slotNear, taskNear, touchNear, touchedIn, touchedNear, viewOf}
 use Rattle.rulebook.specs.Machine.{Call, Get, New, Page, Release, Set, call, release}
 use Rattle.rulebook.specs.Sizes.{if_then_else_, serialOf, slotOf}
 use Rattle.rulebook.specs.Starts.{startGet, startNew, startPage, startSet}
@@ -51,9 +51,9 @@ module _ {d : Sizes} {p : List ℕ} (S : Sound d p) where
   -- ---- acts that touch no block
 
   pub quiet-act : (c : SlotChange) (e : TaskChange) (r : Reply) → slotNear d c ≡ true → taskNear d e ≡ true → Seats d p touch.Nothing c → Turns d p touch.Nothing e → Doable d p (record { touch = touch.Nothing; slot = c; task = e; reply = r })
-  unfolding touchedIn touchNear
+  unfolding touchedIn touchedNear touchNear
   quiet-act c e r x y seats turns =
-      record { reach = record { touch = refl; slot = x; task = y }; done = refl; room = no-append (λ k i y o. let z : _≡_ {A = ℕ} 0 1 = cc in omega arith); stands = S .stood-laid; seats = seats; others = λ u _ l. S .filling-laid u l; turns = turns }
+      record { reach = record { slot = x; task = y }; done = refl; room = no-append (λ k i y o. let z : _≡_ {A = ℕ} 0 1 = cc in omega arith); stands = S .stood-laid; seats = seats; others = λ u _ l. S .filling-laid u l; turns = turns }
 
   pub answers-act : (r : Reply) → Doable d p (answers r)
   unfolding slotNear taskNear

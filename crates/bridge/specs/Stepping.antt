@@ -4,34 +4,35 @@ use Prim.Native.Nat.{_+_, _<_, ℕ}
 use mathlib.Core.Bool.{false}
 use mathlib.Core.List.{List}
 use mathlib.Core.Path.{_∙_, _≡_, ap, refl, subst⁻¹}
+use native.Mathlib.Omega.{arith}
 use lib.Dec.{eqb, leb, ltb}
-use lib.ListN.{length}
 use borrow.Author.Tests.{eqb-true, leb-false, ltb-true}
 use Rattle.acts.specs.declared.Found.{Found}
 use Rattle.rulebook.specs.declared.Hand.{Hand}
-use Rattle.rulebook.specs.declared.Progress.{Progress}
 use Rattle.rulebook.specs.declared.Reading.{Reading}
 use Rattle.rulebook.specs.declared.Sizes.{Sizes}
 use Rattle.rulebook.specs.declared.Stage.{Stage}
 use Rattle.rulebook.specs.declared.Task.{Task}
-use Rattle.acts.specs.Plans.{appendsEntry, copyGoes, exchangesOn, fillsCopy, fillsNew, freeIn, getGoes, givesUp, goes, pageGoes, pageSettles, planAt, planRow, planStep, puts, readEntry, readGuess, readIn, readLength, readVersion, readsOld, takes, writesNew}
+use Rattle.acts.specs.Plans.{after, freeIn, goes, ticked}
+use Rattle.acts.specs.StepPlans.{appendsEntry, copyGoes, exchangesOn, fillsCopy, fillsNew, getGoes, givesUp, pageGoes, pageSettles, planAt, planRow, planStep, puts, readsOld, takes, writesNew}
 use Rattle.acts.specs.Sight.{Sight, sightOf}
+use Rattle.acts.specs.Ways.{after-small}
 use Rattle.block.specs.Fills.{fill-keeps, fill-next}
 use Rattle.block.specs.Sound.{Filling, Laid}
 use Rattle.pool.specs.Calls.{stepIn}
 use Rattle.pool.specs.Places.{blockPart}
-use Rattle.pool.specs.Pool.{slotNear, touchedIn, viewOf}
+use Rattle.pool.specs.Pool.{slotNear, touchNear, touchedIn, touchedNear, viewOf}
 use Rattle.rulebook.specs.Machine.{Step, call}
-use Rattle.rulebook.specs.State.{State, blockAt, entryAt, fills, freeBlock, idle, logAt, names, taskAt}
-use Rattle.rulebook.specs.Steps.{answer, counted, middle, moved, probedAt, step}
+use Rattle.rulebook.specs.State.{State, blockAt, fills, freeBlock, idle, names, taskAt}
+use Rattle.rulebook.specs.Steps.{answer, moved, step}
 use Rattle.rulebook.specs.Tests.{if-case}
 use Rattle.rules.specs.Facts.{a-copy, a-get, a-page, append-fits, doing-gets, reserved-slot, unsettled}
-use Rattle.rules.specs.Paced.{TaskRange}
+use Rattle.rules.specs.Paced.{TaskRange, paced-small}
 use Rattle.bridge.specs.Alike.{step-alike}
 use Rattle.bridge.specs.Asked.{Bridged}
 use Rattle.bridge.specs.Doable.{Doable}
 use Rattle.bridge.specs.Planned.{free-is}
-use Rattle.bridge.specs.PlannedStep.{Searching, planned-step}
+use Rattle.bridge.specs.PlannedStep.{CellKept, Searching, Small, cell-kept, planned-step}
 use Rattle.bridge.specs.Shown.{sight-shows, sound-shape, spans}
 use Rattle.bridge.specs.Sound.{Sound, filledTo}
 use Rattle.bridge.specs.Starting.{answers-act, called, ends-act, goes-act, quiet-act}
@@ -47,31 +48,20 @@ use Rattle.rulebook.specs.declared.Reading.the-variants as reading
 use Rattle.rulebook.specs.declared.Stage.the-variants as stage
 use Rattle.rulebook.specs.declared.Reply.the-variants as reply
 
--- ---- a get keeps the cell in hand
-
-abbrev CellKept : ℕ → Read → Type 0
-CellKept i read.Bad = Unit
-CellKept i (read.Got (progress.Going r w)) = w .cell ≡ i
-CellKept i (read.Got (progress.Settled w)) = w .cell ≡ i
-
-cell-kept : (s : State) (r : Reading) (k : Task) → CellKept (k .hand .cell) (readIn r (sightOf s) k)
-unfolding readIn readGuess readVersion readLength readEntry sightOf
-cell-kept s reading.Guess k = refl
-cell-kept s reading.Version k = if-case (λ (q : Progress). CellKept (k .hand .cell) (read.Got q)) (eqb (blockAt s (k .block) .version) (k .number)) (λ _. refl) (λ _. refl)
-cell-kept s reading.Length k = if-case (λ (q : Progress). CellKept (k .hand .cell) (read.Got q)) (eqb (length (logAt (blockAt s (k .block)) (k .hand .cell))) 0) (λ _. refl) (λ _. refl)
-cell-kept s reading.Probe k =
-    let e = entryAt (logAt (blockAt s (k .block)) (k .hand .cell)) (middle (k .hand)) in
-    let q = probedAt (middle (k .hand)) e (k .number) (k .hand) in
-    let same : q .cell ≡ k .hand .cell = if-case (λ (w : Hand). w .cell ≡ k .hand .cell) (leb (k .number) (e .version)) (λ _. refl) (λ _. refl) in
-    if-case (CellKept (k .hand .cell)) (leb (k .hand .hi) (k .hand .lo)) (λ _. tt) (λ _.
-    if-case (λ (z : Progress). CellKept (k .hand .cell) (read.Got z)) (eqb (q .lo) (q .hi)) (λ _. same) (λ _. same))
-
 module _ {d : Sizes} {p : List ℕ} (S : Sound d p) where
   abbrev s : State
   s = viewOf d p
 
   abbrev f : Sight
   f = sightOf s
+
+  -- a block has at most 4096 cells, and no task takes 1,000,000,000 steps
+  small : (t : ℕ) → Small (taskAt s t)
+  unfolding viewOf
+  small t =
+      let few = spans d p S .cells in
+      let r = S .paced .tasks t in
+      record { steps = omega (arith, paced-small s (S .paced) few t); number = omega (arith, few, r .number-within); hand = omega (arith, few, r .hand-below) }
 
   module _ (t : ℕ) (inT : t < d .t) where
     abbrev k : Task
@@ -82,80 +72,84 @@ module _ {d : Sizes} {p : List ℕ} (S : Sound d p) where
 
     -- ---- taking
 
-    take-act : (x : Stage) → filledTo x (d .n) 0 ≡ 0 → Doable d p (takes (freeIn f) f t (counted k) x)
-    unfolding takes givesUp sightOf counted viewOf
+    take-act : (x : Stage) → filledTo x (d .n) 0 ≡ 0 → Doable d p (takes (freeIn f) f t (ticked k) x)
+    unfolding takes givesUp sightOf ticked viewOf
     take-act x e =
-        subst⁻¹ (λ (y : Found). Doable d p (takes y f t (counted k) x)) (free-is s (sound-shape d p S))
-        (if-case (λ (y : Found). Doable d p (takes y f t (counted k) x)) (ltb (freeBlock s) (d .b)) (λ q. took-act S t inT x e (ltb-true _ _ q)) (λ _. ends-act S (k .fresh) _ t idle _ (range .fresh-below) inT refl refl))
+        subst⁻¹ (λ (y : Found). Doable d p (takes y f t (ticked k) x)) (free-is s (sound-shape d p S))
+        (if-case (λ (y : Found). Doable d p (takes y f t (ticked k) x)) (ltb (freeBlock s) (d .b)) (λ q. took-act S t inT x e (ltb-true _ _ q)) (λ _. ends-act S (k .fresh) _ t idle _ (range .fresh-below) inT refl refl))
 
     -- ---- filling
 
-    fill-new : k .stage ≡ stage.FillNew → Doable d p (fillsNew f t (counted k))
-    unfolding fillsNew sightOf counted moved viewOf
+    -- up to the cell after the one in hand
+    filled-next : {w : List ℕ} → Filling (k .hand .cell + 1) (d .n) w → Filling (after (k .hand .cell)) (d .n) w
+    filled-next {w} F = subst⁻¹ (λ (c : ℕ). Filling c (d .n) w) (after-small (small t .hand)) F
+
+    fill-new : k .stage ≡ stage.FillNew → Doable d p (fillsNew f t (ticked k))
+    unfolding fillsNew sightOf ticked moved viewOf
     fill-new q =
-        let F = fill-next (filled-so S t inT stage.FillNew q refl) (k .hand .cell) (k .value) (range .hand-below) refl in
-        if-case (Doable d p) (eqb (k .hand .cell + 1) (d .n))
+        let F = filled-next (fill-next (filled-so S t inT stage.FillNew q refl) (k .hand .cell) (k .value) (range .hand-below) refl) in
+        if-case (Doable d p) (eqb (after (k .hand .cell)) (d .n))
         (λ e. finish-act S t inT (touch.Fill (k .target) (k .hand .cell) (k .value)) (k .target) 0 (fill-ends S t inT (ap fills q) (k .hand .cell) (k .value) (range .hand-below) (filled-whole (eqb-true _ _ e) F)))
         (λ e. fill-on S t inT (ap fills q) (k .hand .cell) (k .value) (range .hand-below) _ _ refl (λ _. F))
 
-    fill-copy : k .stage ≡ stage.FillCopy → Doable d p (fillsCopy (f .sizes .n) t (counted k))
-    unfolding fillsCopy sightOf counted moved viewOf
+    fill-copy : k .stage ≡ stage.FillCopy → Doable d p (fillsCopy (f .sizes .n) t (ticked k))
+    unfolding fillsCopy sightOf ticked moved viewOf
     fill-copy q =
-        let F = fill-next (filled-so S t inT stage.FillCopy q refl) (k .hand .cell) (answer (k .hand)) (range .hand-below) refl in
-        if-case (λ (k′ : Task). Doable d p (goes (touch.Fill (k .target) (k .hand .cell) (answer (k .hand))) t k′ reply.Quiet)) (eqb (k .hand .cell + 1) (d .n))
+        let F = filled-next (fill-next (filled-so S t inT stage.FillCopy q refl) (k .hand .cell) (answer (k .hand)) (range .hand-below) refl) in
+        if-case (λ (k′ : Task). Doable d p (goes (touch.Fill (k .target) (k .hand .cell) (answer (k .hand))) t k′ reply.Quiet)) (eqb (after (k .hand .cell)) (d .n))
         (λ e. fill-on S t inT (ap fills q) (k .hand .cell) (answer (k .hand)) (range .hand-below) _ _ refl (λ _. filled-whole (eqb-true _ _ e) F))
         (λ e. fill-on S t inT (ap fills q) (k .hand .cell) (answer (k .hand)) (range .hand-below) _ _ refl (λ _. F))
 
-    put-act : k .stage ≡ stage.Put → Doable d p (puts f t (counted k))
-    unfolding puts counted viewOf
+    put-act : k .stage ≡ stage.Put → Doable d p (puts f t (ticked k))
+    unfolding puts ticked viewOf
     put-act q =
         finish-act S t inT (touch.Fill (k .target) (k .cell) (k .value)) (k .target) 0 (fill-ends S t inT (ap fills q) (k .cell) (k .value) (range .cell-below) (fill-keeps (filled-so S t inT stage.Put q refl) (k .cell) (k .value) (range .cell-below)))
 
     -- ---- a set in place
 
-    exchange-act : k .stage ≡ stage.Exchange → Doable d p (exchangesOn (f .version (k .block)) (f .sizes .n) t (counted k))
-    unfolding exchangesOn sightOf counted moved slotNear viewOf
+    exchange-act : k .stage ≡ stage.Exchange → Doable d p (exchangesOn (f .version (k .block)) (f .sizes .n) t (ticked k))
+    unfolding exchangesOn sightOf ticked moved slotNear viewOf
     exchange-act q =
         if-case (Doable d p) (eqb (blockAt s (k .block) .version) (k .number))
         (λ e. let T = exchange-touches (spans d p S) (k .block) (range .block-below) (k .number) (eqb-true _ _ e) (range .number-within) in
         in-place S t inT slot.Same _ _ (ap names q) (T .0) (T .1 (named-laid S t inT (ap names q))) refl tt (if-case (λ (k′ : Task). fills (k′ .stage) ≡ false) (ltb (k .number) (d .n)) (λ _. refl) (λ _. refl)))
         (λ _. goes-act S t _ _ inT refl)
 
-    append-act : k .stage ≡ stage.Append → Doable d p (appendsEntry t (counted k))
-    unfolding appendsEntry counted moved slotNear viewOf
+    append-act : k .stage ≡ stage.Append → Doable d p (appendsEntry t (ticked k))
+    unfolding appendsEntry ticked moved slotNear viewOf
     append-act q =
         let T = append-touches (spans d p S) (k .block) (range .block-below) (named-laid S t inT (ap names q)) (append-fits s (S .rules) t q .0) (k .cell) (record { version = k .number; old = k .hand .guess }) (range .cell-below) in
         in-place S t inT slot.Same _ _ (ap names q) (T .0) (T .1) refl tt refl
 
-    write-act : k .stage ≡ stage.Write → Doable d p (writesNew f t (counted k))
-    unfolding writesNew counted viewOf
+    write-act : k .stage ≡ stage.Write → Doable d p (writesNew f t (ticked k))
+    unfolding writesNew ticked viewOf
     write-act q =
         let T = write-touches (spans d p S) (k .block) (range .block-below) (k .cell) (k .value) (range .cell-below) in
         let L = T .1 (named-laid S t inT (ap names q)) in
-        finish-act S t inT (touch.Write (k .block) (k .cell) (k .value)) (k .block) (k .number + 1) (λ serial r. in-place S t inT (slot.To (k .fresh) _) idle r (ap names q) (T .0) L (near-fresh S t inT _) (λ _. subst⁻¹ (Laid (d .n)) (T .0 .own) L) refl)
+        finish-act S t inT (touch.Write (k .block) (k .cell) (k .value)) (k .block) (after (k .number)) (λ serial r. in-place S t inT (slot.To (k .fresh) _) idle r (ap names q) (T .0) L (near-fresh S t inT _) (λ _. subst⁻¹ (Laid (d .n)) (T .0 .own) L) refl)
 
     -- ---- reading
 
-    get-goes : (x : Read) → Doable d p (getGoes x t (counted k))
+    get-goes : (x : Read) → Doable d p (getGoes x t (ticked k))
     unfolding getGoes moved
     get-goes read.Bad = answers-act S _
     get-goes (read.Got (progress.Going r w)) = goes-act S t _ _ inT refl
     get-goes (read.Got (progress.Settled w)) = goes-act S t _ _ inT refl
 
-    page-goes : (x : Read) → Doable d p (pageGoes x t (counted k))
-    unfolding pageGoes pageSettles moved counted
+    page-goes : (x : Read) → Doable d p (pageGoes x t (ticked k))
+    unfolding pageGoes pageSettles moved ticked
     page-goes read.Bad = answers-act S _
     page-goes (read.Got (progress.Going r w)) = goes-act S t _ _ inT refl
-    page-goes (read.Got (progress.Settled w)) = if-case (Doable d p) (eqb (w .cell + 1) (k .until)) (λ _. goes-act S t _ _ inT refl) (λ _. goes-act S t _ _ inT refl)
+    page-goes (read.Got (progress.Settled w)) = if-case (Doable d p) (eqb (after (w .cell)) (k .until)) (λ _. goes-act S t _ _ inT refl) (λ _. goes-act S t _ _ inT refl)
 
     -- a copy has filled its block up to the cell that it reads
-    copy-on : (y : Reading) → k .stage ≡ stage.Copying y → (x : Stage) (w : Hand) → filledTo x (d .n) (w .cell) ≡ w .cell → w .cell ≡ k .hand .cell → Doable d p (goes touch.Nothing t (moved (counted k) x w) reply.Quiet)
-    unfolding moved counted slotNear touchedIn
+    copy-on : (y : Reading) → k .stage ≡ stage.Copying y → (x : Stage) (w : Hand) → filledTo x (d .n) (w .cell) ≡ w .cell → w .cell ≡ k .hand .cell → Doable d p (goes touch.Nothing t (moved (ticked k) x w) reply.Quiet)
+    unfolding moved ticked slotNear touchedIn touchedNear touchNear
     copy-on y q x w o e =
         quiet-act S slot.Same (task.To t _) _ refl (near-t S t inT _) tt
         (λ _. subst⁻¹ (λ (c : ℕ). Filling c (d .n) (blockPart p d (k .target))) (o ∙ e) (filled-so S t inT (stage.Copying y) q refl))
 
-    copy-goes : (y : Reading) → k .stage ≡ stage.Copying y → (x : Read) → CellKept (k .hand .cell) x → Doable d p (copyGoes x t (counted k))
+    copy-goes : (y : Reading) → k .stage ≡ stage.Copying y → (x : Read) → CellKept (k .hand .cell) x → Doable d p (copyGoes x t (ticked k))
     unfolding copyGoes
     copy-goes y q read.Bad e = answers-act S _
     copy-goes y q (read.Got (progress.Going r w)) e = copy-on y q (stage.Copying r) w refl e
@@ -163,18 +157,18 @@ module _ {d : Sizes} {p : List ℕ} (S : Sound d p) where
 
     -- ---- every stage
 
-    stage-act : (x : Stage) → k .stage ≡ x → Doable d p (planAt x f t (counted k))
+    stage-act : (x : Stage) → k .stage ≡ x → Doable d p (planAt x f t (ticked k))
     unfolding planAt
     stage-act stage.Idle q = answers-act S _
     stage-act stage.TakeNew q = take-act stage.FillNew refl
     stage-act stage.FillNew q = fill-new q
     stage-act (stage.Getting r) q = get-goes _
-    stage-act stage.Exchange q = unfold counted in exchange-act q
-    stage-act stage.Read q = unfold readsOld sightOf counted moved in goes-act S t _ _ inT refl
+    stage-act stage.Exchange q = unfold ticked in exchange-act q
+    stage-act stage.Read q = unfold readsOld sightOf ticked moved in goes-act S t _ _ inT refl
     stage-act stage.Append q = append-act q
     stage-act stage.Write q = write-act q
     stage-act stage.TakeCopy q = take-act (stage.Copying reading.Guess) refl
-    stage-act (stage.Copying r) q = unfold counted in copy-goes r q _ (cell-kept s r (counted k))
+    stage-act (stage.Copying r) q = unfold ticked in copy-goes r q _ (cell-kept s r (ticked k))
     stage-act stage.FillCopy q = fill-copy q
     stage-act stage.Put q = put-act q
     stage-act (stage.Paging r) q = page-goes _
@@ -205,4 +199,4 @@ module _ {d : Sizes} {p : List ℕ} (S : Sound d p) where
   step-bridged t =
       let sh = sound-shape d p S in
       called S (λ e. planStep e t) (Step t) (step-alike (sight-shows d p S) sh (S .rules) (S .paced) t) (step-act t)
-      (planned-step s sh t (record { unsettled = searching t _ refl; spare = λ n. reserved-slot s (S .rules) t n .2 }))
+      (planned-step s sh t (record { unsettled = searching t _ refl; spare = λ n. reserved-slot s (S .rules) t n .2; small = small t }))

@@ -1,7 +1,7 @@
 -- What is done to one block of a sound pool: that it is done, and which words the block then has.
 -- Rests on Doable and on block's laws of each change.
 use Prim.Native.Nat.{_+_, _<_, _≤_, suc, zero, ℕ}
-use mathlib.Core.Bool.{true}
+use mathlib.Core.Bool.{Bool, true}
 use mathlib.Core.List.{List}
 use mathlib.Core.Path.{_∙_, _≡_, ap, refl, sym}
 use native.Mathlib.Omega.{arith}
@@ -16,10 +16,11 @@ use Rattle.block.specs.Layout.{Sized}
 use Rattle.block.specs.Sound.{Filling, Laid, blockOf, entriesIn}
 use Rattle.block.specs.Words.{appendIn, exchangeIn, fillIn, takeIn, writeIn}
 use Rattle.block.specs.Writes.{append-long, exchange-first, exchange-long, fill-done, fill-long, take-done, take-long, write-done, write-long}
-use Rattle.pool.specs.Acts.{Appendable, blockNamed}
-use Rattle.pool.specs.Keeps.{block-length, block-own, block-sized}
+use Rattle.pool.specs.Acts.{Appendable, blockNamed, done-own}
+use Rattle.pool.specs.Does.{touched-near}
+use Rattle.pool.specs.Keeps.{block-sized}
 use Rattle.pool.specs.Places.{Spans, blockPart}
-use Rattle.pool.specs.Pool.{putBlock, putDone, raised, touchNear, touchedIn, viewOf}
+use Rattle.pool.specs.Pool.{putDone, raised, touchNear, touchedIn, touchedNear, viewOf}
 use Rattle.pool.specs.View.{view-block-at}
 use Rattle.rulebook.specs.State.{Block, blockAt, logAt}
 use Rattle.theorems.specs.Prices.Budget.{passed, passed-next, passed-total, sumTo}
@@ -55,35 +56,38 @@ module _ {d : Sizes} {p : List ℕ} (g : Spans d p) (b : ℕ) (h : b < d .b) whe
   sized : Sized (d .n) (blockPart p d b)
   sized = block-sized g b h
 
-  -- the words that are put there are there
-  put : (z : List ℕ) → length z ≡ length w → blockPart (putBlock p d b z) d b ≡ z
-  put z l = block-own g b h z (l ∙ block-length g b h)
+  -- a touch of this block: what it makes of the block's words is there
+  touches : (x : Touch) (z : List ℕ × Bool) → touchNear d x ≡ true → ((k : ℕ) → blockNamed x k ≡ eqb k b) → touchedNear p d x ≡ putDone p d b z → z .1 ≡ true → length (z .0) ≡ length w → Appendable d p x → Touches d p x b (z .0)
+  unfolding putDone
+  touches x z near named e done l room =
+      let q = touched-near p d x near ∙ e in
+      record { near = near; named = named; done = ap (λ (y : List ℕ × Bool). y .1) q ∙ done; room = room; own = ap (λ (y : List ℕ × Bool). blockPart (y .0) d b) q ∙ done-own g b h z l }
 
   pub exchange-touches : (L : ℕ) → blockAt (viewOf d p) b .version ≡ L → L ≤ d .n
       → Touches d p (touch.Exchange b L) b (exchangeIn (d .n) (blockPart p d b) L .0) × (Laid (d .n) (blockPart p d b) → Laid (d .n) (exchangeIn (d .n) (blockPart p d b) L .0))
-  unfolding touchedIn putDone touchNear blockNamed
+  unfolding touchedNear touchNear blockNamed
   exchange-touches L e q =
       let r = exchange-first sized L (ap (λ (x : Block). x .version) (sym (view-block-at d p b h)) ∙ e) q in
-      (record { near = lt-ltb _ _ h; named = λ k. refl; done = ap raised (r .0); room = no-append (λ k i y o. let z : _≡_ {A = ℕ} 0 1 = cc in omega arith); own = put _ (exchange-long n w L) }, r .1 .laid)
+      (touches (touch.Exchange b L) _ (lt-ltb _ _ h) (λ k. refl) refl (ap raised (r .0)) (exchange-long n w L) (no-append (λ k i y o. let z : _≡_ {A = ℕ} 0 1 = cc in omega arith)), r .1 .laid)
 
   pub write-touches : (i v : ℕ) → i < d .n
       → Touches d p (touch.Write b i v) b (writeIn (d .n) (blockPart p d b) i v .0) × (Laid (d .n) (blockPart p d b) → Laid (d .n) (writeIn (d .n) (blockPart p d b) i v .0))
-  unfolding touchedIn putDone touchNear blockNamed
+  unfolding touchedNear touchNear blockNamed
   write-touches i v q =
       let r = write-done sized i v q in
-      (record { near = lt-ltb _ _ h; named = λ k. refl; done = r .0; room = no-append (λ k j y o. let z : _≡_ {A = ℕ} 0 1 = cc in omega arith); own = put _ (write-long n w i v) }, r .1 .laid)
+      (touches (touch.Write b i v) _ (lt-ltb _ _ h) (λ k. refl) refl (r .0) (write-long n w i v) (no-append (λ k j y o. let z : _≡_ {A = ℕ} 0 1 = cc in omega arith)), r .1 .laid)
 
   pub take-touches : Touches d p (touch.Take b) b (takeIn (d .n) (blockPart p d b) .0) × Filling 0 (d .n) (takeIn (d .n) (blockPart p d b) .0)
-  unfolding touchedIn putDone touchNear blockNamed
+  unfolding touchedNear touchNear blockNamed
   take-touches =
       let r = take-done sized in
-      (record { near = lt-ltb _ _ h; named = λ k. refl; done = r .0; room = no-append (λ k j y o. let z : _≡_ {A = ℕ} 0 1 = cc in omega arith); own = put _ (take-long n w) }, r .2)
+      (touches (touch.Take b) _ (lt-ltb _ _ h) (λ k. refl) refl (r .0) (take-long n w) (no-append (λ k j y o. let z : _≡_ {A = ℕ} 0 1 = cc in omega arith)), r .2)
 
   pub fill-touches : (i v : ℕ) → i < d .n → Touches d p (touch.Fill b i v) b (fillIn (d .n) (blockPart p d b) i v .0)
-  unfolding touchedIn putDone touchNear blockNamed
+  unfolding touchedNear touchNear blockNamed
   fill-touches i v q =
       let r = fill-done sized i v q in
-      record { near = lt-ltb _ _ h; named = λ k. refl; done = r .0; room = no-append (λ k j y o. let z : _≡_ {A = ℕ} 0 1 = cc in omega arith); own = put _ (fill-long n w i v) }
+      touches (touch.Fill b i v) _ (lt-ltb _ _ h) (λ k. refl) refl (r .0) (fill-long n w i v) (no-append (λ k j y o. let z : _≡_ {A = ℕ} 0 1 = cc in omega arith))
 
   -- an append finds room in a block that is laid out and has fewer than N entries
   module _ (L : Laid (d .n) (blockPart p d b)) (less : entries (blockAt (viewOf d p) b .logs) < d .n) (i : ℕ) (e : Entry) (q : i < d .n) where
@@ -97,7 +101,7 @@ module _ {d : Sizes} {p : List ℕ} (g : Spans d p) (b : ℕ) (h : b < d .b) whe
     }
 
     pub append-touches : Touches d p (touch.Append b i e) b (appendIn (d .n) (blockPart p d b) i (e .version) (e .old) .0) × Laid (d .n) (appendIn (d .n) (blockPart p d b) i (e .version) (e .old) .0)
-    unfolding touchedIn putDone touchNear blockNamed
+    unfolding touchedNear touchNear blockNamed
     append-touches =
         let r = append-done L i (e .version) (e .old) q fewer in
-        (record { near = lt-ltb _ _ h; named = λ k. refl; done = r .0; room = room-for; own = put _ (append-long n w i (e .version) (e .old)) }, r .1 .laid L)
+        (touches (touch.Append b i e) _ (lt-ltb _ _ h) (λ k. refl) refl (r .0) (append-long n w i (e .version) (e .old)) room-for, r .1 .laid L)

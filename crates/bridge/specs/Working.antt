@@ -14,7 +14,8 @@ use Rattle.rulebook.specs.declared.Sizes.{Sizes}
 use Rattle.rulebook.specs.declared.Slot.{Slot}
 use Rattle.rulebook.specs.declared.Stage.{Stage}
 use Rattle.rulebook.specs.declared.Task.{Task}
-use Rattle.acts.specs.Plans.{ends, finishes, goes}
+use Rattle.acts.specs.Plans.{ends, goes, ticked}
+use Rattle.acts.specs.StepPlans.{finishes}
 use Rattle.acts.specs.Sight.{Sight, sightOf}
 use Rattle.block.specs.Fills.{filled-laid}
 use Rattle.block.specs.Sound.{Filling, Laid}
@@ -24,7 +25,7 @@ use Rattle.pool.specs.Places.{Spans, blockPart}
 use Rattle.pool.specs.Pool.{slotNear, taskNear, viewOf}
 use Rattle.rulebook.specs.Sizes.{lastSerial}
 use Rattle.rulebook.specs.State.{State, fills, freeBlock, handOf, idle, names, slotAt, stood, taskAt}
-use Rattle.rulebook.specs.Steps.{aimed, counted, moved}
+use Rattle.rulebook.specs.Steps.{aimed, moved}
 use Rattle.rulebook.specs.Tests.{by-test, if-case}
 use Rattle.rules.specs.Facts.{filled-block}
 use Rattle.rules.specs.Paced.{TaskRange}
@@ -60,7 +61,7 @@ module _ {d : Sizes} {p : List ℕ} (S : Sound d p) where
   touch-act : {x : Touch} {b : ℕ} {z : List ℕ} (c : SlotChange) (e : TaskChange) (r : Reply) → Touches d p x b z → (stood s b ≡ true → Laid (d .n) z) → ((u : ℕ) → taskNamed e u ≡ false → fills (taskAt s u .stage) ≡ true → taskAt s u .target ≡ b → ⊥)
       → slotNear d c ≡ true → taskNear d e ≡ true → Seats d p x c → Turns d p x e → Doable d p (record { touch = x; slot = c; task = e; reply = r })
   touch-act {x} {b} {z} c e r T laid alone i o seats turns = record {
-    reach = record { touch = T .near; slot = i; task = o };
+    reach = record { slot = i; task = o };
     done = T .done;
     room = T .room;
     stands = λ k h l. by-test (eqb k b)
@@ -72,7 +73,7 @@ module _ {d : Sizes} {p : List ℕ} (S : Sound d p) where
   }
     where
       other : (k : ℕ) → k < d .b → eqb k b ≡ false → wordsAfter d p x k ≡ blockPart p d k
-      other k h q = touched-keeps g x (T .near) .blocks k h (T .named k ∙ q)
+      other k h q = touched-keeps g x .blocks k h (T .named k ∙ q)
 
       inside : (u : ℕ) → fills (taskAt s u .stage) ≡ true → taskAt s u .target < d .b
       inside u l = unfold viewOf in (filled-block s (S .rules) u l .0)
@@ -120,12 +121,12 @@ module _ {d : Sizes} {p : List ℕ} (S : Sound d p) where
     named-laid n = S .stood-laid _ (range .block-below) (named-on s (S .rules) t n)
 
     -- a task that ends with a handle
-    pub finish-act : (x : Touch) (b L : ℕ) → ((serial : ℕ) (r : Reply) → Doable d p (ends x (k .fresh) (record { serial = serial; status = status.Live; block = b; number = L }) t idle r)) → Doable d p (finishes (f .slot (k .fresh)) x t (counted k) b L)
-    unfolding finishes sightOf counted
+    pub finish-act : (x : Touch) (b L : ℕ) → ((serial : ℕ) (r : Reply) → Doable d p (ends x (k .fresh) (record { serial = serial; status = status.Live; block = b; number = L }) t idle r)) → Doable d p (finishes (f .slot (k .fresh)) x t (ticked k) b L)
+    unfolding finishes sightOf ticked
     finish-act x b L h = if-case (Doable d p) (leb lastSerial (slotAt s (k .fresh) .serial)) (λ _. answers-act S _) (λ _. h _ _)
 
     -- the lowest free block is taken
-    pub took-act : (x : Stage) → filledTo x (d .n) 0 ≡ 0 → freeBlock s < d .b → Doable d p (goes (touch.Take (freeBlock s)) t (aimed (moved (counted k) x (handOf 0)) (freeBlock s)) reply.Quiet)
+    pub took-act : (x : Stage) → filledTo x (d .n) 0 ≡ 0 → freeBlock s < d .b → Doable d p (goes (touch.Take (freeBlock s)) t (aimed (moved (ticked k) x (handOf 0)) (freeBlock s)) reply.Quiet)
     unfolding slotNear aimed moved viewOf
     took-act x e h =
         let free = not-held s h in

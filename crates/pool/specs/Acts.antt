@@ -33,8 +33,9 @@ use Rattle.acts.specs.declared.TaskChange.{TaskChange}
 use Rattle.acts.specs.declared.TaskChange.the-variants as task
 use Rattle.acts.specs.declared.Act.{Act}
 use Rattle.pool.specs.Places.{blockPart, Spans}
-use Rattle.pool.specs.Pool.{viewOf, putBlock, raised, putDone, touchedIn, seatedIn, turnedIn, actedIn, appliedIn, touchNear, slotNear, taskNear, InReach}
+use Rattle.pool.specs.Pool.{viewOf, putBlock, raised, putDone, touchedIn, touchedNear, seatedIn, turnedIn, actedIn, appliedIn, touchNear, slotNear, taskNear, InReach}
 use Rattle.pool.specs.Keeps.{none, only, Keeps, keeps-spans, keeps-all, keeps-both, slots-alone, tasks-alone, blocks-alone, slot-keeps, task-keeps, block-own, block-keeps, block-length, block-sized}
+use Rattle.pool.specs.Does.{done-near, touched-far, touched-near}
 use Rattle.pool.specs.View.{view-block-at, view-slot, view-task, view-block}
 
 -- ---- a touch leaves a block as long as it was
@@ -92,19 +93,23 @@ taskNamed task.Same = none
 taskNamed (task.To t k) = only t
 
 module _ {d : Sizes} {p : List ℕ} (g : Spans d p) where
-  pub touched-keeps : (x : Touch) → touchNear d x ≡ true → Keeps d p (touchedIn p d x .0) none none (blockNamed x)
-  unfolding touchedIn putDone touchNear blockNamed
-  touched-keeps touch.Nothing h = keeps-all d p none none none
-  touched-keeps (touch.Exchange k l) h =
+  near-keeps : (x : Touch) → touchNear d x ≡ true → Keeps d p (touchedNear p d x .0) none none (blockNamed x)
+  unfolding touchedNear putDone touchNear blockNamed
+  near-keeps touch.Nothing h = keeps-all d p none none none
+  near-keeps (touch.Exchange k l) h =
       let a = ltb-true k (d .b) h in block-keeps g k a _ (exchange-length (d .n) (blockPart p d k) l ∙ block-length g k a)
-  touched-keeps (touch.Append k i e) h =
+  near-keeps (touch.Append k i e) h =
       let a = ltb-true k (d .b) h in block-keeps g k a _ (append-length (d .n) (blockPart p d k) i (e .version) (e .old) ∙ block-length g k a)
-  touched-keeps (touch.Write k i v) h =
+  near-keeps (touch.Write k i v) h =
       let a = ltb-true k (d .b) h in block-keeps g k a _ (write-length (d .n) (blockPart p d k) i v ∙ block-length g k a)
-  touched-keeps (touch.Take k) h =
+  near-keeps (touch.Take k) h =
       let a = ltb-true k (d .b) h in block-keeps g k a _ (take-length (d .n) (blockPart p d k) ∙ block-length g k a)
-  touched-keeps (touch.Fill k i v) h =
+  near-keeps (touch.Fill k i v) h =
       let a = ltb-true k (d .b) h in block-keeps g k a _ (fill-length (d .n) (blockPart p d k) i v ∙ block-length g k a)
+
+  pub touched-keeps : (x : Touch) → Keeps d p (touchedIn p d x .0) none none (blockNamed x)
+  touched-keeps x =
+      by-test (touchNear d x) (λ q. rw (touched-near p d x q) (near-keeps x q)) (λ q. rw (touched-far p d x q) (keeps-all d p none none (blockNamed x)))
 
   pub seated-keeps : (c : SlotChange) → slotNear d c ≡ true → Keeps d p (seatedIn p d c) (slotNamed c) none none
   unfolding seatedIn slotNear slotNamed
@@ -170,34 +175,37 @@ module _ {d : Sizes} {p : List ℕ} (g : Spans d p) where
       view-block d p g k h w (l ∙ block-length g k h)
       ∙ ap (withBlock (viewOf d p) k) (e ∙ ap change (sym (view-block-at d p k h)))
 
-  pub view-touched : (x : Touch) → touchNear d x ≡ true → touchedIn p d x .1 ≡ true → Appendable d p x → viewOf d (touchedIn p d x .0) ≡ touched (viewOf d p) x
-  unfolding touchedIn putDone touchNear touched
-  view-touched touch.Nothing h y a = refl
-  view-touched (touch.Exchange k l) h y a =
+  view-near : (x : Touch) → touchNear d x ≡ true → touchedNear p d x .1 ≡ true → Appendable d p x → viewOf d (touchedNear p d x .0) ≡ touched (viewOf d p) x
+  unfolding touchedNear putDone touchNear touched
+  view-near touch.Nothing h y a = refl
+  view-near (touch.Exchange k l) h y a =
       let b = ltb-true k (d .b) h in
       let r = exchange-raised (d .n) (blockPart p d k) l y in
       view-change k b _ (λ (z : Block). withVersion z (l + 1)) (exchange-length (d .n) (blockPart p d k) l) (exchange-first (block-sized g k b) l (r .0) (r .1) .1 .block)
-  view-touched (touch.Append k i e) h y a =
+  view-near (touch.Append k i e) h y a =
       let b = ltb-true k (d .b) h in
       view-change k b _ (λ (z : Block). withLog z i (logAt z i ++ (e ∷ []))) (append-length (d .n) (blockPart p d k) i (e .version) (e .old))
       (append-done (a .laid k i e refl) i (e .version) (e .old) (append-cell (d .n) (blockPart p d k) i (e .version) (e .old) y) (a .less k i e refl) .1 .block)
-  view-touched (touch.Write k i v) h y a =
+  view-near (touch.Write k i v) h y a =
       let b = ltb-true k (d .b) h in
       view-change k b _ (λ (z : Block). withCell z i v) (write-length (d .n) (blockPart p d k) i v)
       (write-done (block-sized g k b) i v (write-cell (d .n) (blockPart p d k) i v y) .1 .block)
-  view-touched (touch.Take k) h y a =
+  view-near (touch.Take k) h y a =
       let b = ltb-true k (d .b) h in
       view-change k b _ (λ (z : Block). withVersion z 0) (take-length (d .n) (blockPart p d k)) (take-done (block-sized g k b) .1)
-  view-touched (touch.Fill k i v) h y a =
+  view-near (touch.Fill k i v) h y a =
       let b = ltb-true k (d .b) h in
       view-change k b _ (λ (z : Block). withLog (withCell z i v) i []) (fill-length (d .n) (blockPart p d k) i v)
       (fill-done (block-sized g k b) i v (fill-cell (d .n) (blockPart p d k) i v y) .2)
+
+  pub view-touched : (x : Touch) → touchedIn p d x .1 ≡ true → Appendable d p x → viewOf d (touchedIn p d x .0) ≡ touched (viewOf d p) x
+  view-touched x y a = let q = done-near p d x y in rw (touched-near p d x q) (view-near x q (rw (touched-near p d x q) at y) a)
 
 -- ---- the whole act
 
 module _ (p : List ℕ) (d : Sizes) where
   pub applied-answers : (r : Reply) → appliedIn p d (answers r) ≡ (p, r)
-  unfolding appliedIn actedIn touchedIn seatedIn turnedIn
+  unfolding appliedIn actedIn touchedIn touchedNear touchNear seatedIn turnedIn
   applied-answers r = refl
 
   -- refused 2: no word changes
@@ -215,7 +223,7 @@ module _ {d : Sizes} {p : List ℕ} (g : Spans d p) (a : Act) (r : InReach d a) 
   after = touchedIn p d (a .touch) .0
 
   spans-touched : Spans d after
-  spans-touched = keeps-spans (touched-keeps g (a .touch) (r .touch)) g
+  spans-touched = keeps-spans (touched-keeps g (a .touch)) g
 
   spans-seated : Spans d (seatedIn after d (a .slot))
   spans-seated = keeps-spans (seated-keeps spans-touched (a .slot) (r .slot)) spans-touched
@@ -228,7 +236,7 @@ module _ {d : Sizes} {p : List ℕ} (g : Spans d p) (a : Act) (r : InReach d a) 
       rw (applied-done p d a y) (
         view-turned spans-seated (a .task) (r .task)
             ∙ ap (λ (z : State). turned z (a .task)) (view-seated spans-touched (a .slot) (r .slot)
-            ∙ ap (λ (z : State). seated z (a .slot)) (view-touched g (a .touch) (r .touch) y s)),
+            ∙ ap (λ (z : State). seated z (a .slot)) (view-touched g (a .touch) y s)),
         refl,
       )
 
@@ -240,6 +248,6 @@ module _ {d : Sizes} {p : List ℕ} (g : Spans d p) (a : Act) (r : InReach d a) 
       let b = blockNamed (a .touch) in
       by-test (touchedIn p d (a .touch) .1)
       (λ y.
-      rw (applied-done p d a y) (keeps-both (blocks-alone f h b (touched-keeps g (a .touch) (r .touch)))
+      rw (applied-done p d a y) (keeps-both (blocks-alone f h b (touched-keeps g (a .touch)))
       (keeps-both (slots-alone f h b (seated-keeps spans-touched (a .slot) (r .slot))) (tasks-alone f h b (turned-keeps spans-seated (a .task) (r .task))))))
       (λ y. rw (applied-not p d a y) (keeps-all d p f h b))

@@ -5,7 +5,8 @@ use mathlib.Core.List.{List}
 use Rattle.acts.specs.declared.Act.{Act}
 use Rattle.rulebook.specs.declared.Reply.{Reply}
 use Rattle.acts.specs.Looks.{seesCell, seesEntry, seesLog, seesReport, seesTask, seesVersion}
-use Rattle.acts.specs.Plans.{planGet, planNew, planPage, planRelease, planSet, planStep}
+use Rattle.acts.specs.Plans.{planGet, planNew, planPage, planRelease, planSet}
+use Rattle.acts.specs.StepPlans.{planStep}
 use Rattle.acts.specs.Sight.{Sight}
 use Rattle.pool.specs.Header.{headerOf}
 use Rattle.pool.specs.Pool.{appliedIn, sight}

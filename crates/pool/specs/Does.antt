@@ -1,7 +1,7 @@
 -- What is not done changes nothing.
 -- Rests on Pool.
 use Prim.Native.Nat.{ℕ}
-use mathlib.Core.Path.{_≡_, refl}
+use mathlib.Core.Path.{_≡_, refl, sym}
 use mathlib.Core.Bool.{true, false, true≢false}
 use mathlib.Core.List.{List}
 use lib.Dec.{leb, eqb}
@@ -15,7 +15,7 @@ use Rattle.acts.specs.declared.Touch.{Touch}
 use Rattle.acts.specs.declared.Touch.the-variants as touch
 use Rattle.pool.specs.Parts.{splice-same}
 use Rattle.pool.specs.Places.{blockPart}
-use Rattle.pool.specs.Pool.{putBlock, raised, putDone, touchedIn}
+use Rattle.pool.specs.Pool.{putBlock, raised, putDone, touchNear, touchedIn, touchedNear}
 
 -- ---- what is not done changes nothing
 
@@ -55,11 +55,30 @@ module _ (p : List ℕ) (d : Sizes) where
   unfolding putBlock blockPart
   put-same k w e = rw e (splice-same p _ _)
 
+  near-untouched : (x : Touch) → touchedNear p d x .1 ≡ false → touchedNear p d x .0 ≡ p
+  unfolding touchedNear putDone
+  near-untouched touch.Nothing h = refl
+  near-untouched (touch.Exchange k l) h = put-same k _ (exchange-not (d .n) (blockPart p d k) l h)
+  near-untouched (touch.Append k i e) h = put-same k _ (append-not (d .n) (blockPart p d k) i (e .version) (e .old) h)
+  near-untouched (touch.Write k i v) h = put-same k _ (write-not (d .n) (blockPart p d k) i v h)
+  near-untouched (touch.Take k) h = put-same k _ (take-not (d .n) (blockPart p d k) h)
+  near-untouched (touch.Fill k i v) h = put-same k _ (fill-not (d .n) (blockPart p d k) i v h)
+
+  -- ---- where the block is
+
+  pub touched-near : (x : Touch) → touchNear d x ≡ true → touchedIn p d x ≡ touchedNear p d x
+  unfolding touchedIn
+  touched-near x h = rw h
+
+  pub touched-far : (x : Touch) → touchNear d x ≡ false → touchedIn p d x ≡ (p, false)
+  unfolding touchedIn
+  touched-far x h = rw h
+
   pub untouched : (x : Touch) → touchedIn p d x .1 ≡ false → touchedIn p d x .0 ≡ p
-  unfolding touchedIn putDone
-  untouched touch.Nothing h = refl
-  untouched (touch.Exchange k l) h = put-same k _ (exchange-not (d .n) (blockPart p d k) l h)
-  untouched (touch.Append k i e) h = put-same k _ (append-not (d .n) (blockPart p d k) i (e .version) (e .old) h)
-  untouched (touch.Write k i v) h = put-same k _ (write-not (d .n) (blockPart p d k) i v h)
-  untouched (touch.Take k) h = put-same k _ (take-not (d .n) (blockPart p d k) h)
-  untouched (touch.Fill k i v) h = put-same k _ (fill-not (d .n) (blockPart p d k) i v h)
+  unfolding touchedIn
+  untouched x h = by-test (touchNear d x) (λ q. rw q (near-untouched x (rw q at h))) (λ q. rw q)
+
+  -- what was done was done to a block that is there
+  pub done-near : (x : Touch) → touchedIn p d x .1 ≡ true → touchNear d x ≡ true
+  unfolding touchedIn
+  done-near x h = by-test (touchNear d x) (λ q. q) (λ q. absurd (true≢false (sym (rw q at h))))

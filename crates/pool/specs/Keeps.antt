@@ -112,6 +112,7 @@ module _ {d : Sizes} {p q : List ℕ} {f g h : ℕ → Bool} (s : Keeps d p q f 
     tasks = g .tasks;
     blocks = g .blocks;
     long = rw (s .long) (g .long);
+    room = rw (s .long) (g .room);
   }
 
 pub keeps-all : (d : Sizes) (p : List ℕ) (f g h : ℕ → Bool) → Keeps d p p f g h

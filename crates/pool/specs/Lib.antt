@@ -14,6 +14,5 @@ pub mod Keeps
 pub mod Ranges
 pub mod View
 pub mod Acts
-pub mod Seen
 pub mod Opened
 pub mod Calls

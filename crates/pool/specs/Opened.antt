@@ -25,8 +25,7 @@ use Rattle.pool.specs.Header.{headerFields, headed, sizesOf, sizesIn, he
 use Rattle.pool.specs.Sizing.{Openable, opens-says, described-header}
 use Rattle.pool.specs.Pool.{viewOf, controlOf, openUnder, openIn, lieOf}
 use Rattle.pool.specs.Lends.{row-ends}
-use Rattle.pool.specs.Ranges.{slot-zero, task-zero, slot-zero-row, task-zero-row}
-use Rattle.pool.specs.Seen.{Legible}
+use Rattle.pool.specs.Ranges.{slot-zero, task-zero}
 
 pub listTo-replicate : {A : Type 0} (n : ℕ) (a : A) → listTo n (λ (i : ℕ). a) ≡ replicate n a
 unfolding listTo
@@ -140,13 +139,6 @@ module _ (p : List ℕ) (n h t : ℕ) (o : opens n h t (length p) ≡ true) wher
             (λ k l. ap (blockOf n) (kept-block k l)) i;
       }
 
-  -- a row of 0 may be read
-  after-legible : Legible d after
-  after-legible = record {
-    slots = λ j l. slot-zero-row d (slotPart after j) (may .some) (zero-slot j l);
-    tasks = λ k l. task-zero-row d (taskPart after d k) (may .limits .someCells) (may .limits .someHandles) (may .some) (zero-task k l);
-  }
-
   -- ---- the laws
 
   pub open-reply : openIn p n h t .1 ≡ reply.Opened (d .b)
@@ -168,6 +160,3 @@ module _ (p : List ℕ) (n h t : ℕ) (o : opens n h t (length p) ≡ true) wher
   -- the blocks, and what is after them, are as they lay
   pub open-rest : (i : ℕ) → controlWords h t ≤ i → getD (openIn p n h t .0) i 0 ≡ getD p i 0
   open-rest i l = rw open-is (splice-after p _ _ _ fitting i l)
-
-  pub open-legible : Legible d (openIn p n h t .0)
-  open-legible = rw open-is after-legible

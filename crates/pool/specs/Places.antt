@@ -4,7 +4,7 @@ use Prim.Native.Nat.{ℕ, _+_, _*_, _≤_}
 use mathlib.Core.Path.{_≡_}
 use mathlib.Core.List.{List}
 use lib.ListN.{length}
-use Rattle.rulebook.specs.Sizes.{mostCells, mostHandles, mostTasks, mostBlocks, headerWords, handleRow, taskRow, controlWords, blockWords}
+use Rattle.rulebook.specs.Sizes.{mostCells, mostHandles, mostTasks, mostBlocks, headerWords, handleRow, taskRow, controlWords, blockWords, room}
 use Rattle.rulebook.specs.declared.Sizes.{Sizes}
 use Rattle.pool.specs.Parts.{rowPart}
 
@@ -44,6 +44,8 @@ pub record Spans (d : Sizes) (p : List ℕ) : Type 0 where
   pub tasks : d .t ≤ mostTasks
   pub blocks : d .b ≤ mostBlocks
   pub long : blockBase d + blockWords (d .n) * d .b ≤ length p
+  -- and no more blocks have room
+  pub room : d .b ≡ room (d .n) (d .h) (d .t) (length p)
 
 -- the numbers are small enough to compute where block k lies
 pub record Small (d : Sizes) (k : ℕ) : Type 0 where

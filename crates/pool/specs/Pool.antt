@@ -6,7 +6,7 @@ use mathlib.Core.Bool.{Bool, true, false}
 use mathlib.Core.List.{List, _++_}
 use lib.ListN.{length, drop, replicate}
 use lib.Dec.{ltb}
-use Rattle.rulebook.specs.Sizes.{headerWords, handleRow, taskRow, controlWords, blockWords}
+use Rattle.rulebook.specs.Sizes.{if_then_else_, headerWords, handleRow, taskRow, controlWords, blockWords}
 use Rattle.rulebook.specs.State.{State, listTo}
 use Rattle.rulebook.specs.Starts.{Lie}
 use Rattle.rulebook.specs.declared.Sizes.{Sizes}
@@ -17,10 +17,15 @@ use Rattle.rulebook.specs.declared.Reply.the-variants as reply
 use Rattle.block.specs.Layout.{versionOf, cellOf}
 use Rattle.block.specs.Words.{versionIn, cellIn, lengthIn, entryIn, exchangeIn, appendIn, writeIn, takeIn, fillIn}
 use Rattle.block.specs.Sound as sound
+use Rattle.block.specs.declared.Looked.{Looked}
+use Rattle.block.specs.declared.Looked.the-variants as looked
+use Rattle.block.specs.declared.Probed.{Probed}
+use Rattle.block.specs.declared.Probed.the-variants as probed
 use Rattle.block.specs.declared.Exchanged.{Exchanged}
 use Rattle.block.specs.declared.Exchanged.the-variants as exchanged
 use Rattle.acts.specs.Sight.{Sight}
 use Rattle.acts.specs.declared.SlotRow.{SlotRow}
+use Rattle.acts.specs.declared.SlotRow.the-variants as slotrow
 use Rattle.acts.specs.declared.TaskRow.{TaskRow}
 use Rattle.acts.specs.declared.Touch.{Touch}
 use Rattle.acts.specs.declared.Touch.the-variants as touch
@@ -32,7 +37,7 @@ use Rattle.acts.specs.declared.Act.{Act}
 use Rattle.pool.specs.declared.Header.{Header}
 use Rattle.pool.specs.declared.Header.the-variants as header
 use Rattle.pool.specs.Parts.{splice, putRow}
-use Rattle.pool.specs.Rows.{slotWords, slotRead, slotRowOf, taskFields, taskWords, taskRead, taskRowOf}
+use Rattle.pool.specs.Rows.{slotWords, slotRead, slotRowOf, slotSeenOf, taskFields, taskWords, taskRead, taskRowOf, taskSeenOf}
 use Rattle.pool.specs.Places.{taskBase, blockBase, slotPart, taskPart, blockPart}
 use Rattle.pool.specs.Header.{headerFields, headed, sizesIn}
 
@@ -49,23 +54,35 @@ viewOf d p =
 
 -- ---- what a call can see of it
 
+-- a row, a block that is not there is bad
+unfoldable pub slotSeen : List ℕ → Sizes → ℕ → SlotRow
+slotSeen p d j = if ltb j (d .h) then slotSeenOf (slotPart p j) else slotrow.Bad
+
+unfoldable pub taskSeen : List ℕ → Sizes → ℕ → TaskRow
+taskSeen p d t = taskSeenOf (taskPart p d t)
+
+unfoldable pub versionSeen : List ℕ → Sizes → ℕ → Looked
+versionSeen p d k = if ltb k (d .b) then versionIn (d .n) (blockPart p d k) else looked.Bad
+
+unfoldable pub cellSeen : List ℕ → Sizes → ℕ → ℕ → Looked
+cellSeen p d k i = if ltb k (d .b) then cellIn (d .n) (blockPart p d k) i else looked.Bad
+
+unfoldable pub lengthSeen : List ℕ → Sizes → ℕ → ℕ → Looked
+lengthSeen p d k i = if ltb k (d .b) then lengthIn (d .n) (blockPart p d k) i else looked.Bad
+
+unfoldable pub entrySeen : List ℕ → Sizes → ℕ → ℕ → ℕ → Probed
+entrySeen p d k i j = if ltb k (d .b) then entryIn (d .n) (blockPart p d k) i j else probed.Bad
+
+unfoldable pub sight : List ℕ → Sizes → Sight
+sight p d =
+    record { sizes = d; slot = slotSeen p d; task = taskSeen p d; version = versionSeen p d; cell = cellSeen p d; log = lengthSeen p d; entry = entrySeen p d }
+
+-- as the check reads a row: each number in its range
 unfoldable pub slotIn : List ℕ → Sizes → ℕ → SlotRow
 slotIn p d j = slotRowOf d (slotPart p j)
 
 unfoldable pub taskIn : List ℕ → Sizes → ℕ → TaskRow
 taskIn p d t = taskRowOf d (taskPart p d t)
-
-unfoldable pub sight : List ℕ → Sizes → Sight
-sight p d =
-    record {
-      sizes = d;
-      slot = slotIn p d;
-      task = taskIn p d;
-      version = λ k. versionIn (d .n) (blockPart p d k);
-      cell = λ k i. cellIn (d .n) (blockPart p d k) i;
-      log = λ k i. lengthIn (d .n) (blockPart p d k) i;
-      entry = λ k i j. entryIn (d .n) (blockPart p d k) i j;
-    }
 
 -- ---- writing
 
@@ -89,15 +106,28 @@ raised exchanged.Bad = false
 unfoldable pub putDone : List ℕ → Sizes → ℕ → List ℕ × Bool → List ℕ × Bool
 putDone p d k z = (putBlock p d k (z .0), z .1)
 
-unfoldable pub touchedIn : List ℕ → Sizes → Touch → List ℕ × Bool
-touchedIn p d touch.Nothing = (p, true)
-touchedIn p d (touch.Exchange k l) =
+unfoldable pub touchedNear : List ℕ → Sizes → Touch → List ℕ × Bool
+touchedNear p d touch.Nothing = (p, true)
+touchedNear p d (touch.Exchange k l) =
     let z = exchangeIn (d .n) (blockPart p d k) l in
     putDone p d k (z .0, raised (z .1))
-touchedIn p d (touch.Append k i e) = putDone p d k (appendIn (d .n) (blockPart p d k) i (e .version) (e .old))
-touchedIn p d (touch.Write k i v) = putDone p d k (writeIn (d .n) (blockPart p d k) i v)
-touchedIn p d (touch.Take k) = putDone p d k (takeIn (d .n) (blockPart p d k))
-touchedIn p d (touch.Fill k i v) = putDone p d k (fillIn (d .n) (blockPart p d k) i v)
+touchedNear p d (touch.Append k i e) = putDone p d k (appendIn (d .n) (blockPart p d k) i (e .version) (e .old))
+touchedNear p d (touch.Write k i v) = putDone p d k (writeIn (d .n) (blockPart p d k) i v)
+touchedNear p d (touch.Take k) = putDone p d k (takeIn (d .n) (blockPart p d k))
+touchedNear p d (touch.Fill k i v) = putDone p d k (fillIn (d .n) (blockPart p d k) i v)
+
+-- the block that a touch names is there
+unfoldable pub touchNear : Sizes → Touch → Bool
+touchNear d touch.Nothing = true
+touchNear d (touch.Exchange k l) = ltb k (d .b)
+touchNear d (touch.Append k i e) = ltb k (d .b)
+touchNear d (touch.Write k i v) = ltb k (d .b)
+touchNear d (touch.Take k) = ltb k (d .b)
+touchNear d (touch.Fill k i v) = ltb k (d .b)
+
+-- not done where it is not
+unfoldable pub touchedIn : List ℕ → Sizes → Touch → List ℕ × Bool
+touchedIn p d x = if touchNear d x then touchedNear p d x else (p, false)
 
 unfoldable pub seatedIn : List ℕ → Sizes → SlotChange → List ℕ
 seatedIn p d slot.Same = p
@@ -115,15 +145,7 @@ actedIn false q p d a = (p, reply.Refused 2)
 unfoldable pub appliedIn : List ℕ → Sizes → Act → List ℕ × Reply
 appliedIn p d a = actedIn (touchedIn p d (a .touch) .1) (touchedIn p d (a .touch) .0) p d a
 
--- what an act names is there: the block, the slot, the task
-unfoldable pub touchNear : Sizes → Touch → Bool
-touchNear d touch.Nothing = true
-touchNear d (touch.Exchange k l) = ltb k (d .b)
-touchNear d (touch.Append k i e) = ltb k (d .b)
-touchNear d (touch.Write k i v) = ltb k (d .b)
-touchNear d (touch.Take k) = ltb k (d .b)
-touchNear d (touch.Fill k i v) = ltb k (d .b)
-
+-- what an act names is there: the slot, the task
 unfoldable pub slotNear : Sizes → SlotChange → Bool
 slotNear d slot.Same = true
 slotNear d (slot.To j x) = ltb j (d .h)
@@ -133,7 +155,6 @@ taskNear d task.Same = true
 taskNear d (task.To t k) = ltb t (d .t)
 
 pub record InReach (d : Sizes) (a : Act) : Type 0 where
-  pub touch : touchNear d (a .touch) ≡ true
   pub slot : slotNear d (a .slot) ≡ true
   pub task : taskNear d (a .task) ≡ true
 

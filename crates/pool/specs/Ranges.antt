@@ -1,25 +1,22 @@
 -- What is written is what is read, and a row that was read lies in its ranges.
 -- Rests on Codes and Rows.
-use Prim.Native.Nat.{ℕ, _≤_}
+use Prim.Native.Nat.{ℕ}
 use mathlib.Core.Path.{_≡_, refl, sym, ap, _∙_}
 use mathlib.Core.Bool.{Bool, true, false, not, _&&_}
 use mathlib.Core.List.{List, _++_}
 use native.Mathlib.Omega.{arith}
 use lib.ListN.{getD}
 use lib.Dec.{ltb, leb, eqb}
-use borrow.Author.Tests.{ltb-true, leb-true, lt-ltb, le-leb, eq-eqb}
-use Rattle.rulebook.specs.Sizes.{lastSerial}
+use borrow.Author.Tests.{ltb-true, leb-true}
 use Rattle.rulebook.specs.Tests.{by-test, and-both}
 use Rattle.rulebook.specs.State.{freed, idle}
 use Rattle.rulebook.specs.declared.Sizes.{Sizes}
-use Rattle.rulebook.specs.declared.Status.{Status}
-use Rattle.rulebook.specs.declared.Status.the-variants as status
 use Rattle.rulebook.specs.declared.Slot.{Slot}
 use Rattle.rulebook.specs.declared.Task.{Task}
 use Rattle.acts.specs.declared.SlotRow.the-variants as slotrow
 use Rattle.acts.specs.declared.TaskRow.the-variants as taskrow
-use Rattle.pool.specs.Codes.{codeOf, stageOf, stageFrom, isCode, statusCode, statusFrom, stage-from, status-from}
-use Rattle.pool.specs.Rows.{slotWords, slotRead, slotFits, slotRowOf, bitOf, taskWords, taskRead, standsIn, worksIn, taskFits, taskRowOf, SlotRanged, Ranged}
+use Rattle.pool.specs.Codes.{stageOf, stageFrom, isCode, statusFrom, stage-from, status-from}
+use Rattle.pool.specs.Rows.{slotWords, slotRead, slotFits, slotRowOf, bitOf, taskWords, taskRead, standsIn, worksIn, taskFits, taskRowOf, Ranged}
 
 -- ---- what is written is what is read
 
@@ -59,13 +56,6 @@ task-read k l =
 -- ---- a row that was read
 
 module _ (d : Sizes) (x : Slot) where
-  pub slot-ranged : slotFits d x ≡ true → SlotRanged d x
-  unfolding slotFits
-  slot-ranged e =
-      let a = and-both (ltb (x .block) (d .b)) (leb (x .number) (d .n) && leb (x .serial) lastSerial) e in
-      let b = and-both (leb (x .number) (d .n)) (leb (x .serial) lastSerial) (a .1) in
-      record { block = ltb-true _ _ (a .0); number = leb-true _ _ (b .0); serial = leb-true _ _ (b .1) }
-
   pub slot-row : (w : List ℕ) → slotRowOf d w ≡ slotrow.Row x → (slotRead w ≡ x) × (slotFits d x ≡ true)
   unfolding slotRowOf
   slot-row w e =
@@ -75,20 +65,6 @@ module _ (d : Sizes) (x : Slot) where
       let i : slotRead w ≡ x = cc in
       (i, ap (slotFits d) (sym i) ∙ and-both (ltb (getD w 1 0) 3) (slotFits d (slotRead w)) o .1))
       (λ o. let q : slotrow.Bad ≡ slotrow.Row x = rw o at e in let z : _≡_ {A = ℕ} 0 1 = cc in absurd (omega arith))
-
-  status-small : (s : Status) → ltb (statusCode s) 3 ≡ true
-  status-small status.Free = refl
-  status-small status.Reserved = refl
-  status-small status.Live = refl
-
-  slot-status : ltb (getD (slotWords x) 1 0) 3 ≡ true
-  unfolding slotWords
-  slot-status = status-small (x .status)
-
-  -- a slot in its ranges is read as it was written
-  pub slot-again : slotFits d x ≡ true → slotRowOf d (slotWords x) ≡ slotrow.Row x
-  unfolding slotRowOf
-  slot-again e = rw (slot-read x, e, slot-status)
 
 module _ (d : Sizes) (k : Task) where
   pub task-ranged : taskFits d k ≡ true → Ranged d k
@@ -124,15 +100,6 @@ module _ (d : Sizes) (k : Task) where
       (i, ap (taskFits d) (sym i) ∙ and-both (isCode (getD w 0 0)) (taskFits d (taskRead w)) o .1))
       (λ o. let q : taskrow.Bad ≡ taskrow.Row k = rw o at e in let z : _≡_ {A = ℕ} 0 1 = cc in absurd (omega arith))
 
-  task-code : (l : List ℕ) → isCode (getD (taskWords k ++ l) 0 0) ≡ true
-  unfolding isCode taskWords
-  task-code l = eq-eqb _ _ (ap codeOf (stage-from (k .stage)))
-
-  -- a task in its ranges is read as it was written
-  pub task-again : (l : List ℕ) → taskFits d k ≡ true → taskRowOf d (taskWords k ++ l) ≡ taskrow.Row k
-  unfolding taskRowOf
-  task-again l e = rw (task-read k l, e, task-code l)
-
 -- ---- rows of 0
 
 pub slot-zero : (w : List ℕ) → ((i : ℕ) → getD w i 0 ≡ 0) → slotRead w ≡ freed 0
@@ -142,13 +109,3 @@ slot-zero w z = rw (z 0, z 1, z 2, z 3)
 pub task-zero : (w : List ℕ) → ((i : ℕ) → getD w i 0 ≡ 0) → taskRead w ≡ idle
 unfolding taskRead stageFrom stageOf
 task-zero w z = rw (z 0, z 1, z 2, z 3, z 4, z 5, z 6, z 7, z 8, z 9, z 10, z 11, z 12, z 13, z 14, z 15, z 16)
-
-pub slot-zero-row : (d : Sizes) (w : List ℕ) → 1 ≤ d .b → ((i : ℕ) → getD w i 0 ≡ 0) → slotRowOf d w ≡ slotrow.Row (slotRead w)
-unfolding slotRowOf slotFits
-slot-zero-row d w b z =
-    rw (slot-zero w z, z 1, lt-ltb 0 (d .b) (omega arith), le-leb 0 (d .n) (omega arith), le-leb 0 lastSerial (omega arith))
-
-pub task-zero-row : (d : Sizes) (w : List ℕ) → 1 ≤ d .n → 1 ≤ d .h → 1 ≤ d .b → ((i : ℕ) → getD w i 0 ≡ 0) → taskRowOf d w ≡ taskrow.Row (taskRead w)
-unfolding taskRowOf taskFits standsIn worksIn isCode stageFrom stageOf codeOf
-task-zero-row d w n h b z =
-    rw (task-zero w z, z 0, lt-ltb 0 (d .h) (omega arith), lt-ltb 0 (d .b) (omega arith), lt-ltb 0 (d .n) (omega arith), le-leb 0 (d .n) (omega arith))

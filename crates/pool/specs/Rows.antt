@@ -1,4 +1,4 @@
--- The words of a handle row and of a task row, what is read of them, and the ranges that are tested where a row is read.
+-- The words of a handle row and of a task row; what a call sees of them, and the ranges that the check tests.
 -- Rests on Codes.
 use Prim.Native.Nat.{ℕ, _≤_, _<_}
 use mathlib.Core.Bool.{Bool, true, false, not, _&&_}
@@ -26,6 +26,11 @@ slotWords x = x .serial ∷ statusCode (x .status) ∷ x .block ∷ x .number �
 unfoldable pub slotRead : List ℕ → Slot
 slotRead w = record { serial = getD w 0 0; status = statusFrom (getD w 1 0); block = getD w 2 0; number = getD w 3 0 }
 
+-- as a call sees it: its code is tested, and its numbers where they are used
+unfoldable pub slotSeenOf : List ℕ → SlotRow
+slotSeenOf w = if ltb (getD w 1 0) 3 then slotrow.Row (slotRead w) else slotrow.Bad
+
+-- as the check reads it: each number in its range
 unfoldable pub slotFits : Sizes → Slot → Bool
 slotFits d x = ltb (x .block) (d .b) && (leb (x .number) (d .n) && leb (x .serial) lastSerial)
 
@@ -75,7 +80,11 @@ taskWith g w =
 unfoldable pub taskRead : List ℕ → Task
 taskRead w = taskWith (stageFrom (getD w 0 0)) w
 
--- a task's steps stay below this
+-- as a call sees it: its code is tested, and its numbers where they are used
+unfoldable pub taskSeenOf : List ℕ → TaskRow
+taskSeenOf w = if isCode (getD w 0 0) then taskrow.Row (taskRead w) else taskrow.Bad
+
+-- as the check reads it. A task's steps stay below this
 abbrev pub mostSteps : ℕ
 mostSteps = 1000000000
 
@@ -99,12 +108,7 @@ abbrev pub stageSeen : TaskRow → StageRow
 stageSeen taskrow.Bad = stagerow.Bad
 stageSeen (taskrow.Row k) = stagerow.At (k .stage)
 
--- ---- what the tests say
-
-pub record SlotRanged (d : Sizes) (x : Slot) : Type 0 where
-  pub block : x .block < d .b
-  pub number : x .number ≤ d .n
-  pub serial : x .serial ≤ lastSerial
+-- ---- what the tests of a task say
 
 pub record Ranged (d : Sizes) (k : Task) : Type 0 where
   pub slot : k .slot < d .h

@@ -4,11 +4,11 @@ use Prim.Native.Nat.{ℕ, _+_, _-_, _*_, _/_, _≤_, _<_, min}
 use mathlib.Core.Path.{_≡_, refl, sym, ap, _∙_, subst}
 use mathlib.Core.Bool.{true, _&&_}
 use mathlib.Core.List.{List}
-use native.Mathlib.Nat.{min-le-left, min-le-right, le-min, le-trans, mul-le-mul-left, mul-div-le, le-div-iff-mul-le, div-lt-iff-lt-mul}
+use native.Mathlib.Nat.{min-eq-left, min-eq-right, min-le-left, min-le-right, le-min, le-trans, mul-le-mul-left, mul-div-le, le-div-iff-mul-le, div-lt-iff-lt-mul}
 use native.Mathlib.Omega.{arith}
 use lib.ListN.{length, getD}
-use lib.Dec.{leb, eqb}
-use borrow.Author.Tests.{leb-true, eqb-true, le-leb, eq-eqb}
+use lib.Dec.{ltb, leb, eqb}
+use borrow.Author.Tests.{ltb-true, ltb-false, leb-true, eqb-true, le-leb, eq-eqb}
 use Rattle.rulebook.specs.Sizes.{mostCells, mostHandles, mostTasks, mostBlocks, mostWords, headerWords, controlWords, blockWords, room, within, opens}
 use Rattle.rulebook.specs.Tests.{by-test, and-both}
 use Rattle.rulebook.specs.declared.Sizes.{Sizes}
@@ -72,6 +72,17 @@ room-fits n h t words some =
     let a : blockWords n * room n h t words ≤ words - controlWords h t = le-trans (mul-le-mul-left (blockWords n) m) (mul-div-le _ _) in
     let b : blockWords n * 1 ≤ blockWords n * room n h t words = mul-le-mul-left (blockWords n) some in
     let z = block-some n in
+    omega arith
+
+-- a block that is not among them would end beyond the words
+pub room-all : (n h t words k : ℕ) → k < mostBlocks → room n h t words ≤ k → words < controlWords h t + blockWords n * k + blockWords n
+unfolding room
+room-all n h t words k few l =
+    let x = (words - controlWords h t) / blockWords n in
+    let e : x < k + 1 = by-test (ltb x mostBlocks)
+    (λ a. omega (arith, min-eq-right {n = x} {m = mostBlocks} (omega (arith, ltb-true x mostBlocks a))))
+    (λ a. absurd (omega (arith, min-eq-left {n = mostBlocks} {m = x} (ltb-false x mostBlocks a)))) in
+    let f = div-lt-iff-lt-mul {k = blockWords n} {x = words - controlWords h t} {y = k + 1} (block-some n) .0 e in
     omega arith
 
 room-most : (n h t words : ℕ) → room n h t words ≤ mostBlocks
@@ -162,6 +173,7 @@ described-spans p d s =
       tasks = l .tasks;
       blocks = rw b (o .most);
       long = rw b (o .fits);
+      room = b;
     }
 
 pub header-spans : (p : List ℕ) (d : Sizes) → headerOf p ≡ header.Good d → Spans d p

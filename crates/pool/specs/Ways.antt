@@ -26,7 +26,11 @@ use Rattle.pool.specs.declared.Header.{Header}
 use Rattle.pool.specs.declared.Header.the-variants as header
 use Rattle.pool.specs.Sizing.{Limits, limited-says, opens-by, room-none, room-some, block-positive}
 use Rattle.pool.specs.Codes.{codeOf, isCode, stageCoded, stageFrom, statusCode, statusFrom}
-use Rattle.pool.specs.Rows.{bitOf, slotWords, slotRead, slotFits, slotRowOf, taskFields, taskWords, taskWith, taskRead, standsIn, worksIn, taskFits, taskRowOf, stageSeen}
+use Rattle.pool.specs.Rows.{bitOf, slotWords, slotRead, slotFits, slotRowOf, slotSeenOf, taskFields, taskWords, taskWith, taskRead, standsIn, worksIn, taskFits, taskRowOf, taskSeenOf, stageSeen}
+use Rattle.pool.specs.Parts.{part}
+use Rattle.pool.specs.Places.{slotPart, slotStart}
+use Rattle.pool.specs.Pool.{slotSeen}
+use Rattle.acts.specs.declared.SlotRow.{SlotRow}
 use Rattle.pool.specs.Header.{mark, form, limited, sizesOf, sizesIn, headed, headerFields, headerOf}
 
 -- at a return whose case was found by tests on numbers
@@ -146,6 +150,50 @@ module _ (d : Sizes) (w : List ℕ) where
 
         out : isCode (getD w 0 0) && taskFits d (taskRead w) ≡ false → ⊥
         out o = let q : stagerow.Bad ≡ stagerow.At g = (rw o at (sym e ∙ f)) in let z : _≡_ {A = ℕ} 0 1 = cc in omega arith
+
+-- ---- as a call sees them
+
+module _ (w : List ℕ) where
+  pub seen-slot-bad : 3 ≤ getD w 1 0 → slotrow.Bad ≡ slotSeenOf w
+  unfolding slotSeenOf
+  seen-slot-bad a = rw (le-ltb _ _ a)
+
+  pub seen-slot-is : (x : Slot) → getD w 1 0 < 3 → x ≡ slotRead w → slotrow.Row x ≡ slotSeenOf w
+  unfolding slotSeenOf
+  seen-slot-is x a e = rw (e, lt-ltb _ _ a)
+
+  module _ (x : StageRow) (e : x ≡ stageCoded (getD w 0 0)) where
+    pub seen-task-bad : x ≡ stagerow.Bad → taskrow.Bad ≡ taskSeenOf w
+    unfolding taskSeenOf stageCoded
+    seen-task-bad f = by-test (isCode (getD w 0 0)) (λ o. let q : stagerow.At (stageFrom (getD w 0 0)) ≡ stagerow.Bad = (rw o at (sym e ∙ f)) in let z : _≡_ {A = ℕ} 0 1 = cc in absurd (omega arith)) (λ o. rw o)
+
+    pub seen-task-is : (g : Stage) (k : Task) → x ≡ stagerow.At g → k ≡ taskWith g w → taskrow.Row k ≡ taskSeenOf w
+    unfolding taskSeenOf stageCoded taskRead
+    seen-task-is g k f h =
+        by-test (isCode (getD w 0 0))
+        (λ o. let q : stagerow.At (stageFrom (getD w 0 0)) ≡ stagerow.At g = (rw o at (sym e ∙ f)) in
+        let i : stageFrom (getD w 0 0) ≡ g = cc in rw o (ap taskrow.Row (h ∙ ap (λ (y : Stage). taskWith y w) (sym i))))
+        (λ o. let q : stagerow.Bad ≡ stagerow.At g = (rw o at (sym e ∙ f)) in let z : _≡_ {A = ℕ} 0 1 = cc in absurd (omega arith))
+
+pub slot-away : (p : List ℕ) (d : Sizes) (j : ℕ) → d .h ≤ j → slotrow.Bad ≡ slotSeen p d j
+unfolding slotSeen
+slot-away p d j h = rw (le-ltb _ _ h)
+
+pub slot-there : (p : List ℕ) (d : Sizes) (j s : ℕ) (r : SlotRow) → j < d .h → s ≡ slotStart j → r ≡ slotSeenOf (part p s (s + 4)) → r ≡ slotSeen p d j
+unfolding slotSeen slotPart
+slot-there p d j s r h e f = f ∙ rw (e, lt-ltb _ _ h)
+
+pub code-bad : (c : ℕ) (x : StageRow) → x ≡ stageCoded c → x ≡ stagerow.Bad → false ≡ isCode c
+unfolding stageCoded
+code-bad c x e f =
+    by-test (isCode c) (λ o. let q : stagerow.At (stageFrom c) ≡ stagerow.Bad = (rw o at (sym e ∙ f)) in let z : _≡_ {A = ℕ} 0 1 = cc in absurd (omega arith)) (λ o. sym o)
+
+pub code-good : (c : ℕ) (x : StageRow) (g : Stage) → x ≡ stageCoded c → x ≡ stagerow.At g → true ≡ isCode c
+unfolding stageCoded
+code-good c x g e f =
+    by-test (isCode c) (λ o. sym o) (λ o. let q : stagerow.Bad ≡ stagerow.At g = (rw o at (sym e ∙ f)) in let z : _≡_ {A = ℕ} 0 1 = cc in absurd (omega arith))
+
+pub ruleset seeing = (seen-slot-bad, seen-slot-is, seen-task-bad, seen-task-is, slot-away, slot-there, code-bad, code-good)
 
 pub task-written : (row : List ℕ) (k : Task) (g b : ℕ) → length row ≡ 32 → g ≡ codeOf (k .stage) → b ≡ bitOf (k .hand .found)
     → sets row 0 (g ∷ k .slot ∷ k .block ∷ k .number ∷ k .cell ∷ k .value ∷ k .until ∷ k .fresh ∷ k .target

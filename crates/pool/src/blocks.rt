@@ -1,4 +1,5 @@
 // Blocks: block k's words are lent on as a part of the pool, and what reads or writes them sees no others.
+use super::MOST_BLOCKS;
 use super::block_words;
 use super::control_words;
 use super::wide;
@@ -9,14 +10,14 @@ use rulebook::Entry;
 use rulebook::Sizes;
 ghost use mathlib.Core.Path.{_≡_};
 ghost use Prim.Native.Nat.{_<_};
+ghost use lib.Dec.{ltb};
 ghost use lib.ListN.{length};
 ghost use Rattle.block.specs.Layout.{bumpOf};
 ghost use Rattle.block.specs.Sound.{Laid};
 ghost use Rattle.block.specs.Walk.{Decides};
-ghost use Rattle.block.specs.Words.{versionIn, cellIn, lengthIn, entryIn};
 ghost use Rattle.acts.specs.declared.Touch.the-variants as touch;
 ghost use Rattle.pool.specs.Places.{Spans, Small, Place, blockPart};
-ghost use Rattle.pool.specs.Pool.{raised, touchedIn};
+ghost use Rattle.pool.specs.Pool.{cellSeen, entrySeen, lengthSeen, raised, touchedIn, versionSeen};
 
 // The words from start to end.
 pub struct Extent {
@@ -37,13 +38,32 @@ fn extent_of(d: Sizes, k: u32) -> Extent
     }
 }
 
+// Whether there is a block k. No division: B itself is not needed to tell.
+pub fn near(pool: &[u32], d: Sizes, k: u32) -> bool
+    requires { ⌜ Spans d (now pool) ⌝ }
+    ensures { λ r. ⌜ r ≡ ltb k (d .b) ⌝ }
+{
+    if MOST_BLOCKS <= k {
+        return false;
+    }
+    let x = extent_of(d, k);
+    let e = x.end;
+    if pool.len() < e {
+        return false;
+    }
+    true
+}
+
 // ---- reading
 
 // V of block k.
 pub fn version(pool: &[u32], d: Sizes, k: u32) -> Looked
-    requires { ⌜ Spans d (now pool) × (k < d .b) ⌝ }
-    ensures { λ r. ⌜ r ≡ versionIn (d .n) (blockPart (now (pool .entry)) d k) ⌝ }
+    requires { ⌜ Spans d (now pool) ⌝ }
+    ensures { λ r. ⌜ r ≡ versionSeen (now (pool .entry)) d k ⌝ }
 {
+    if !near(pool, d, k) {
+        return Looked::Bad;
+    }
     let x = extent_of(d, k);
     let s = x.start;
     let e = x.end;
@@ -52,9 +72,12 @@ pub fn version(pool: &[u32], d: Sizes, k: u32) -> Looked
 
 // Its cell i.
 pub fn cell(pool: &[u32], d: Sizes, k: u32, i: u32) -> Looked
-    requires { ⌜ Spans d (now pool) × (k < d .b) ⌝ }
-    ensures { λ r. ⌜ r ≡ cellIn (d .n) (blockPart (now (pool .entry)) d k) i ⌝ }
+    requires { ⌜ Spans d (now pool) ⌝ }
+    ensures { λ r. ⌜ r ≡ cellSeen (now (pool .entry)) d k i ⌝ }
 {
+    if !near(pool, d, k) {
+        return Looked::Bad;
+    }
     let x = extent_of(d, k);
     let s = x.start;
     let e = x.end;
@@ -63,9 +86,12 @@ pub fn cell(pool: &[u32], d: Sizes, k: u32, i: u32) -> Looked
 
 // How many entries the log of its cell i has.
 pub fn log_length(pool: &[u32], d: Sizes, k: u32, i: u32) -> Looked
-    requires { ⌜ Spans d (now pool) × (k < d .b) ⌝ }
-    ensures { λ r. ⌜ r ≡ lengthIn (d .n) (blockPart (now (pool .entry)) d k) i ⌝ }
+    requires { ⌜ Spans d (now pool) ⌝ }
+    ensures { λ r. ⌜ r ≡ lengthSeen (now (pool .entry)) d k i ⌝ }
 {
+    if !near(pool, d, k) {
+        return Looked::Bad;
+    }
     let x = extent_of(d, k);
     let s = x.start;
     let e = x.end;
@@ -74,9 +100,12 @@ pub fn log_length(pool: &[u32], d: Sizes, k: u32, i: u32) -> Looked
 
 // Entry j of that log.
 pub fn entry(pool: &[u32], d: Sizes, k: u32, i: u32, j: u32) -> Probed
-    requires { ⌜ Spans d (now pool) × (k < d .b) ⌝ }
-    ensures { λ r. ⌜ r ≡ entryIn (d .n) (blockPart (now (pool .entry)) d k) i j ⌝ }
+    requires { ⌜ Spans d (now pool) ⌝ }
+    ensures { λ r. ⌜ r ≡ entrySeen (now (pool .entry)) d k i j ⌝ }
 {
+    if !near(pool, d, k) {
+        return Probed::Bad;
+    }
     let x = extent_of(d, k);
     let s = x.start;
     let e = x.end;
@@ -125,9 +154,12 @@ fn was_raised(r: Exchanged) -> bool
 }
 
 pub fn exchange(pool: &mut [u32], d: Sizes, k: u32, l: u32) -> bool
-    requires { ⌜ Spans d (now pool) × (k < d .b) ⌝ }
+    requires { ⌜ Spans d (now pool) ⌝ }
     ensures { λ r. ⌜ (now (pool .exit), r) ≡ touchedIn (now (pool .entry)) d (touch.Exchange k l) ⌝ }
 {
+    if !near(pool, d, k) {
+        return false;
+    }
     let x = extent_of(d, k);
     let s = x.start;
     let e = x.end;
@@ -136,9 +168,12 @@ pub fn exchange(pool: &mut [u32], d: Sizes, k: u32, l: u32) -> bool
 }
 
 pub fn append(pool: &mut [u32], d: Sizes, k: u32, i: u32, x: Entry) -> bool
-    requires { ⌜ Spans d (now pool) × (k < d .b) ⌝ }
+    requires { ⌜ Spans d (now pool) ⌝ }
     ensures { λ r. ⌜ (now (pool .exit), r) ≡ touchedIn (now (pool .entry)) d (touch.Append k i x) ⌝ }
 {
+    if !near(pool, d, k) {
+        return false;
+    }
     let y = extent_of(d, k);
     let s = y.start;
     let e = y.end;
@@ -146,9 +181,12 @@ pub fn append(pool: &mut [u32], d: Sizes, k: u32, i: u32, x: Entry) -> bool
 }
 
 pub fn write(pool: &mut [u32], d: Sizes, k: u32, i: u32, v: u32) -> bool
-    requires { ⌜ Spans d (now pool) × (k < d .b) ⌝ }
+    requires { ⌜ Spans d (now pool) ⌝ }
     ensures { λ r. ⌜ (now (pool .exit), r) ≡ touchedIn (now (pool .entry)) d (touch.Write k i v) ⌝ }
 {
+    if !near(pool, d, k) {
+        return false;
+    }
     let x = extent_of(d, k);
     let s = x.start;
     let e = x.end;
@@ -156,9 +194,12 @@ pub fn write(pool: &mut [u32], d: Sizes, k: u32, i: u32, v: u32) -> bool
 }
 
 pub fn take(pool: &mut [u32], d: Sizes, k: u32) -> bool
-    requires { ⌜ Spans d (now pool) × (k < d .b) ⌝ }
+    requires { ⌜ Spans d (now pool) ⌝ }
     ensures { λ r. ⌜ (now (pool .exit), r) ≡ touchedIn (now (pool .entry)) d (touch.Take k) ⌝ }
 {
+    if !near(pool, d, k) {
+        return false;
+    }
     let x = extent_of(d, k);
     let s = x.start;
     let e = x.end;
@@ -166,9 +207,12 @@ pub fn take(pool: &mut [u32], d: Sizes, k: u32) -> bool
 }
 
 pub fn fill(pool: &mut [u32], d: Sizes, k: u32, i: u32, v: u32) -> bool
-    requires { ⌜ Spans d (now pool) × (k < d .b) ⌝ }
+    requires { ⌜ Spans d (now pool) ⌝ }
     ensures { λ r. ⌜ (now (pool .exit), r) ≡ touchedIn (now (pool .entry)) d (touch.Fill k i v) ⌝ }
 {
+    if !near(pool, d, k) {
+        return false;
+    }
     let x = extent_of(d, k);
     let s = x.start;
     let e = x.end;

@@ -6,7 +6,7 @@ use rulebook::Status;
 ghost use mathlib.Core.Path.{_≡_};
 ghost use Prim.Native.Nat.{_<_};
 ghost use Rattle.rulebook.specs.Answers.{readingCode};
-ghost use Rattle.pool.specs.Codes.{codeOf, readingFrom, makingFrom, settingFrom, stageFrom, stageCoded, statusCode, statusFrom};
+ghost use Rattle.pool.specs.Codes.{codeOf, isCode, readingFrom, makingFrom, settingFrom, stageFrom, stageCoded, statusCode, statusFrom};
 
 fn reading_code(r: Reading) -> u32
     ensures { λ c. ⌜ (c ≡ readingCode r) × (c < 7) ⌝ }
@@ -119,6 +119,16 @@ pub fn stage_coded(c: u32) -> StageRow
         53 => StageRow::At(Stage::Paging(Reading::Length)),
         54 => StageRow::At(Stage::Paging(Reading::Probe)),
         _ => StageRow::Bad,
+    }
+}
+
+// Whether c is the code of a stage.
+pub fn is_code(c: u32) -> bool
+    ensures { λ r. ⌜ r ≡ isCode c ⌝ }
+{
+    match stage_coded(c) {
+        StageRow::Bad => false,
+        StageRow::At(_) => true,
     }
 }
 

@@ -3,6 +3,7 @@ use super::FORM;
 use super::HEADER;
 use super::Header;
 use super::MARK;
+use super::MOST_BLOCKS;
 use super::block_words;
 use super::control_words;
 use super::wide;
@@ -16,8 +17,6 @@ const MOST_CELLS: u32 = 4096;
 const MOST_HANDLES: u32 = 256;
 
 const MOST_TASKS: u32 = 16;
-
-const MOST_BLOCKS: u32 = 256;
 
 const MOST_WORDS: usize = 4294967295;
 

@@ -3,7 +3,8 @@ mod blocks;
 mod codes;
 mod headers;
 mod opening;
-mod rows;
+mod slots;
+mod tasks;
 
 pub use blocks::append;
 pub use blocks::bump;
@@ -13,20 +14,24 @@ pub use blocks::exchange;
 pub use blocks::fill;
 pub use blocks::laid;
 pub use blocks::log_length;
+pub use blocks::near;
 pub use blocks::take;
 pub use blocks::version;
 pub use blocks::write;
+pub use codes::is_code;
 pub use headers::header_of;
 pub use opening::open;
-pub use rows::load_slot;
-pub use rows::load_task;
-pub use rows::slot_at;
-pub use rows::stage_at;
-pub use rows::store_slot;
-pub use rows::store_task;
-pub use rows::task_at;
-pub use rows::task_for;
 use rulebook::Sizes;
+pub use slots::load_slot;
+pub use slots::see_slot;
+pub use slots::slot_at;
+pub use slots::store_slot;
+pub use tasks::code_at;
+pub use tasks::load_task;
+pub use tasks::see_task;
+pub use tasks::store_task;
+pub use tasks::task_at;
+pub use tasks::task_for;
 ghost use mathlib.Core.Path.{_≡_};
 ghost use Prim.Native.Nat.{_≤_, _<_};
 ghost use Rattle.rulebook.specs.Sizes.{mostCells, mostHandles, mostTasks, controlWords, blockWords};
@@ -42,6 +47,9 @@ const HEADER: u32 = 16;
 const HANDLE_ROW: u32 = 4;
 
 const TASK_ROW: u32 = 32;
+
+// The most blocks that a store has.
+const MOST_BLOCKS: u32 = 256;
 
 // What the header says: nothing that describes the pool, or the sizes of a store.
 pub enum Header {

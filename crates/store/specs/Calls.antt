@@ -4,9 +4,8 @@ use Prim.Native.Nat.{_<_, _≤_, ℕ}
 use mathlib.Core.Bool.{not}
 use mathlib.Core.List.{List}
 use mathlib.Core.Path.{_∙_, _≡_, ap, ap₂, refl, sym}
-use native.Mathlib.Omega.{arith}
 use lib.Dec.{eqb, leb}
-use borrow.Author.Tests.{le-leb, leb-false, lt-leb, ne-eqb}
+use borrow.Author.Tests.{le-leb, lt-leb, ne-eqb}
 use Rattle.acts.specs.declared.Act.{Act}
 use Rattle.acts.specs.declared.Counted.{Counted}
 use Rattle.acts.specs.declared.Found.{Found}
@@ -21,14 +20,12 @@ use Rattle.acts.specs.Looks.{countOf, livesAt, reports, seesCell, seesEntry, se
 use Rattle.acts.specs.Plans.{standerIn}
 use Rattle.acts.specs.Said.{saidOf, toldIn}
 use Rattle.acts.specs.Sight.{Sight}
-use Rattle.block.specs.Words.{cellIn, entryIn, lengthIn, versionIn}
 use Rattle.pool.specs.Calls.{calledIn, seenIn}
 use Rattle.pool.specs.Header.{headerOf}
-use Rattle.pool.specs.Places.{Spans, blockPart}
-use Rattle.pool.specs.Pool.{appliedIn, sight, taskIn}
+use Rattle.pool.specs.Places.{Spans}
+use Rattle.pool.specs.Pool.{appliedIn, cellSeen, entrySeen, lengthSeen, sight, taskSeen, versionSeen}
 use Rattle.pool.specs.Sizing.{header-spans}
 use Rattle.rulebook.specs.Sizes.{if_then_else_}
-use Rattle.rulebook.specs.Tests.{by-test}
 use Rattle.rulebook.specs.declared.Reply.the-variants as reply
 use Rattle.pool.specs.declared.Header.the-variants as header
 use Rattle.block.specs.declared.Looked.the-variants as looked
@@ -48,11 +45,6 @@ module _ (p : List ℕ) (d : Sizes) where
         there : (m : ℕ) → (if leb (sight p d .sizes .b) b then 12 else m) ≡ m
         there m = unfold sight in rw (lt-leb (d .b) b l)
 
-  -- a look at a block that is there
-  pub seen-below : (b r : ℕ) → r ≡ unseenIn (sight p d) b → r ≡ 0 → b < d .b
-  unfolding unseenIn sight
-  seen-below b r e z = by-test (leb (d .b) b) (λ o. let q : 0 ≡ 12 = sym z ∙ e ∙ rw o in absurd (omega arith)) (λ o. leb-false (d .b) b o)
-
   module _ (b i j : ℕ) where
     pub entry-none : (x : Looked) → x ≡ looked.Bad → reply.Refused 2 ≡ seesUnder x (sight p d) b i j
     unfolding seesUnder
@@ -63,7 +55,7 @@ module _ (p : List ℕ) (d : Sizes) where
       unfolding seesUnder
       entry-over l = rw (e, le-leb m j l)
 
-      pub entry-is : (r : Reply) (y : Probed) → j < m → y ≡ entryIn (d .n) (blockPart p d b) i j → r ≡ showsEntry y → r ≡ seesUnder x (sight p d) b i j
+      pub entry-is : (r : Reply) (y : Probed) → j < m → y ≡ entrySeen p d b i j → r ≡ showsEntry y → r ≡ seesUnder x (sight p d) b i j
       unfolding seesUnder sight
       entry-is r y l q f = f ∙ rw (e, lt-leb m j l, q)
 
@@ -92,7 +84,7 @@ module _ (p : List ℕ) (d : Sizes) where
       met : (r z : Reply) → r ≡ z → r ≡ (if not (eqb (unseenIn (sight p d) b) 0) then reply.Refused (unseenIn (sight p d) b) else z)
       met r z f = f ∙ rw (← e, o)
 
-      pub version-met : (r : Reply) (v : Looked) → v ≡ versionIn (d .n) (blockPart p d b) → r ≡ shows v → r ≡ seesVersion (sight p d) b
+      pub version-met : (r : Reply) (v : Looked) → v ≡ versionSeen p d b → r ≡ shows v → r ≡ seesVersion (sight p d) b
       unfolding seesVersion sight
       version-met r v q f = met r _ (f ∙ rw q)
 
@@ -114,11 +106,11 @@ module _ (p : List ℕ) (d : Sizes) where
           entry-beyond j = met _ _ (unfold sight in beyond _)
 
         module _ (r : Reply) (v : Looked) (l : i < d .n) where
-          pub cell-met : v ≡ cellIn (d .n) (blockPart p d b) i → r ≡ shows v → r ≡ seesCell (sight p d) b i
+          pub cell-met : v ≡ cellSeen p d b i → r ≡ shows v → r ≡ seesCell (sight p d) b i
           unfolding seesCell
           cell-met q f = met r _ (unfold sight in f ∙ rw (lt-leb (d .n) i l, q))
 
-          module _ (q : v ≡ lengthIn (d .n) (blockPart p d b) i) where
+          module _ (q : v ≡ lengthSeen p d b i) where
             pub log-met : r ≡ shows v → r ≡ seesLog (sight p d) b i
             unfolding seesLog
             log-met f = met r _ (unfold sight in f ∙ rw (lt-leb (d .n) i l, q))
@@ -132,7 +124,7 @@ module _ (p : List ℕ) (d : Sizes) where
     unfolding seesTask sight
     task-none l = rw (le-leb (d .t) t l)
 
-    pub task-met : (r : Reply) (x : TaskRow) → t < d .t → x ≡ taskIn p d t → r ≡ seesRow x → r ≡ seesTask (sight p d) t
+    pub task-met : (r : Reply) (x : TaskRow) → t < d .t → x ≡ taskSeen p d t → r ≡ seesRow x → r ≡ seesTask (sight p d) t
     unfolding seesTask sight
     task-met r x l q f = f ∙ rw (lt-leb (d .t) t l, q)
 
@@ -165,7 +157,7 @@ module _ (p : List ℕ) (h : Header) (e : h ≡ headerOf p) where
   unfolding seenIn
   seen-good f d r g i = i ∙ rw (← e, g)
 
-pub ruleset hides = (hidden-none, hidden-is, seen-below, entry-none, entry-over, entry-is)
+pub ruleset hides = (hidden-none, hidden-is, entry-none, entry-over, entry-is)
 
 pub ruleset looks = (version-hid, cell-hid, log-hid, entry-hid, version-met, cell-beyond, log-beyond, entry-beyond, cell-met, log-met, entry-met, task-none, task-met, report-is)
 

@@ -15,7 +15,7 @@ use Rattle.rulebook.specs.declared.Sizes.{Sizes}
 use Rattle.rulebook.specs.declared.Slot.{Slot}
 use Rattle.acts.specs.Plans.{deadOf, earlierOf, inUseOf, liveIn, liveRow, planRelease, refused, releaseAt, releaseOn, userIn}
 use Rattle.acts.specs.Said.{saidOf, toldIn}
-use Rattle.pool.specs.Pool.{actedIn, appliedIn, putSlot, seatedIn, sight, slotIn, touchedIn, turnedIn}
+use Rattle.pool.specs.Pool.{actedIn, appliedIn, putSlot, seatedIn, sight, slotSeen, touchNear, touchedIn, touchedNear, turnedIn}
 use Rattle.rulebook.specs.Sizes.{serialOf, slotOf}
 use Rattle.rulebook.specs.State.{freed, isLive}
 use Rattle.rulebook.specs.Tests.{by-test}
@@ -38,6 +38,9 @@ dead-first m u o = rw (ne-eqb m 0 o)
 abbrev pub OnBelow : Live → ℕ → ℕ → Type 0
 OnBelow (live.Not n) h m = Unit
 OnBelow (live.On x) h m = slotOf h < m
+
+pub free-there : (x : Live) (y : Slot) (h m : ℕ) → OnBelow x h m → x ≡ live.On y → slotOf h < m
+free-there x y h m b e = subst (λ (z : Live). OnBelow z h m) e b
 
 -- what a release of a handle that no task uses leaves and says
 unfoldable pub freedOn : List ℕ → Live → ℕ → List ℕ × Said
@@ -62,7 +65,7 @@ module _ (p : List ℕ) (d : Sizes) where
     not-live m e z =
         by-test (leb (d .h) (slotOf h))
         (λ b. let q : live.Not m ≡ live.Not 7 = (rw b at e) in let u : m ≡ 7 = cc in omega arith)
-        (λ b. row-not-live (slotIn p d (slotOf h)) m (rw b at e) z)
+        (λ b. row-not-live (slotSeen p d (slotOf h)) m (rw b at e) z)
 
     module _ (x : Live) (q : List ℕ) where
       pub free-dead : (m : ℕ) → x ≡ live.Not m → s ≡ saidOf (reply.Refused m) → (p, s) ≡ freedOn p x h
@@ -72,9 +75,6 @@ module _ (p : List ℕ) (d : Sizes) where
       pub free-live : (y w : Slot) → x ≡ live.On y → w ≡ freed (y .serial) → q ≡ putSlot p (slotOf h) w → s ≡ saidOf reply.Quiet → (q, s) ≡ freedOn p x h
       unfolding freedOn
       free-live y w e i u g = rw (e, u, i, g)
-
-      pub free-there : (y : Slot) → OnBelow x h (d .h) → x ≡ live.On y → slotOf h < d .h
-      free-there y b e = subst (λ (z : Live). OnBelow z h (d .h)) e b
 
       module _ (f : x ≡ liveIn (sight p d) h) (z : Found) (e : z ≡ userIn (sight p d) (slotOf h)) (n : ℕ) (c : n ≡ earlierOf (deadOf x) (inUseOf z)) where
         plan-as : releaseOn x (sight p d) h ≡ planRelease (sight p d) h
@@ -96,7 +96,7 @@ module _ (p : List ℕ) (d : Sizes) where
         release-frees o g = g ∙ at x z f e (sym o ∙ c) ∙ ap (does p d) plan-as
           where
             left : (y : Slot) → (putSlot p (slotOf h) (freed (y .serial)), saidOf reply.Quiet) ≡ does p d (record { touch = touch.Nothing; slot = slot.To (slotOf h) (freed (y .serial)); task = task.Same; reply = reply.Quiet })
-            left y = unfold toldIn appliedIn actedIn touchedIn seatedIn turnedIn in refl
+            left y = unfold toldIn appliedIn actedIn touchedIn touchedNear touchNear seatedIn turnedIn in refl
 
             at : (x : Live) (z : Found) → x ≡ liveIn (sight p d) h → z ≡ userIn (sight p d) (slotOf h) → 0 ≡ earlierOf (deadOf x) (inUseOf z) → freedOn p x h ≡ does p d (releaseOn x (sight p d) h)
             at (live.Not m) z f e q = absurd (not-live m f (sym (q ∙ dead-first m (inUseOf z) (not-live m f))))
@@ -104,11 +104,12 @@ module _ (p : List ℕ) (d : Sizes) where
             at (live.On y) (found.At t) f e q = absurd (omega arith)
             at (live.On y) found.None f e q = left y ∙ rw (← e)
 
-    pub release-there : (x : Live) → x ≡ liveIn (sight p d) h → OnBelow x h (d .h)
-    release-there x f = at x f
-      where
-        at : (z : Live) → z ≡ liveIn (sight p d) h → OnBelow z h (d .h)
-        at (live.Not m) e = tt
-        at (live.On y) e = live-there p d h (live.On y) y e refl
+  -- outside the section above: `search` has no Said to give it there
+  pub release-there : (h : ℕ) (x : Live) → x ≡ liveIn (sight p d) h → OnBelow x h (d .h)
+  release-there h x f = at x f
+    where
+      at : (z : Live) → z ≡ liveIn (sight p d) h → OnBelow z h (d .h)
+      at (live.Not m) e = tt
+      at (live.On y) e = live-there p d h (live.On y) y e refl
 
 pub ruleset releases = (free-dead, free-live, free-there, release-refused, release-frees, release-there)

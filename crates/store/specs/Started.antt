@@ -6,24 +6,24 @@ use mathlib.Core.List.{List}
 use mathlib.Core.Path.{_∙_, _≡_, ap, refl, subst, sym}
 use native.Mathlib.Omega.{arith}
 use lib.Dec.{eqb, leb, ltb}
-use borrow.Author.Tests.{eq-eqb, le-leb, le-ltb, leb-false, lt-leb, lt-ltb, ne-eqb}
+use lib.ListN.{getD}
+use borrow.Author.Tests.{eq-eqb, eqb-true, le-leb, le-ltb, leb-false, lt-leb, lt-ltb, ne-eqb}
 use Rattle.acts.specs.declared.Act.{Act}
 use Rattle.acts.specs.declared.Found.{Found}
 use Rattle.acts.specs.declared.Live.{Live}
 use Rattle.acts.specs.declared.Said.{Said}
 use Rattle.acts.specs.declared.SlotRow.{SlotRow}
-use Rattle.acts.specs.declared.StageRow.{StageRow}
-use Rattle.acts.specs.declared.TaskRow.{TaskRow}
 use Rattle.rulebook.specs.declared.Sizes.{Sizes}
 use Rattle.rulebook.specs.declared.Slot.{Slot}
 use Rattle.rulebook.specs.declared.Stage.{Stage}
 use Rattle.rulebook.specs.declared.Task.{Task}
 use Rattle.acts.specs.Plans.{begunOn, getOn, goes, liveIn, liveRow, maker, newOn, pageOn, planGet, planNew, planPage, planSet, readyIn, readyRow, refused, reservedAs, reservesFor, setAt, setOn, vacantIn}
 use Rattle.acts.specs.Said.{saidOf, toldIn}
+use Rattle.pool.specs.Codes.{codeOf, isCode, stageFrom, stageOf}
 use Rattle.pool.specs.Keeps.{keeps-spans, slot-keeps}
-use Rattle.pool.specs.Places.{Spans}
-use Rattle.pool.specs.Pool.{appliedIn, putSlot, putTask, sight, slotIn, taskIn}
-use Rattle.pool.specs.Rows.{stageSeen}
+use Rattle.pool.specs.Places.{Spans, taskPart}
+use Rattle.pool.specs.Pool.{appliedIn, putSlot, putTask, sight, slotSeen, taskSeen}
+use Rattle.pool.specs.Rows.{taskRead, taskSeenOf}
 use Rattle.rulebook.specs.Sizes.{if_then_else_, slotOf}
 use Rattle.rulebook.specs.State.{busy}
 use Rattle.rulebook.specs.Tests.{by-test}
@@ -33,17 +33,31 @@ use Rattle.work.specs.Stepped.{does-goes, does-refused, does-seats}
 use Rattle.acts.specs.declared.Found.the-variants as found
 use Rattle.acts.specs.declared.Live.the-variants as live
 use Rattle.acts.specs.declared.SlotRow.the-variants as slotrow
-use Rattle.acts.specs.declared.StageRow.the-variants as stagerow
-use Rattle.acts.specs.declared.TaskRow.the-variants as taskrow
 use Rattle.acts.specs.declared.Touch.the-variants as touch
 use Rattle.rulebook.specs.declared.Reading.the-variants as reading
 use Rattle.rulebook.specs.declared.Reply.the-variants as reply
 use Rattle.rulebook.specs.declared.Stage.the-variants as stage
 
--- a row that was read is ready by its stage
-row-ready : (k : Task) → (if busy (k .stage) then 5 else 0) ≡ readyRow (taskrow.Row k)
-unfolding readyRow
-row-ready k = refl
+-- only the idle stage has the code 0
+busy-unless : (g : Stage) → (codeOf g ≡ 0 → ⊥) → busy g ≡ true
+unfolding codeOf
+busy-unless stage.Idle z = absurd (z refl)
+busy-unless stage.TakeNew z = refl
+busy-unless stage.FillNew z = refl
+busy-unless (stage.Getting r) z = refl
+busy-unless stage.Exchange z = refl
+busy-unless stage.Read z = refl
+busy-unless stage.Append z = refl
+busy-unless stage.Write z = refl
+busy-unless stage.TakeCopy z = refl
+busy-unless (stage.Copying r) z = refl
+busy-unless stage.FillCopy z = refl
+busy-unless stage.Put z = refl
+busy-unless (stage.Paging r) z = refl
+
+code-busy : (c : ℕ) → (c ≡ 0 → ⊥) → isCode c ≡ true → busy (stageFrom c) ≡ true
+unfolding isCode
+code-busy c z o = busy-unless (stageFrom c) (λ q. z (sym (eqb-true (codeOf (stageFrom c)) c o) ∙ q))
 
 module _ (p : List ℕ) (d : Sizes) where
   -- what an act leaves and says
@@ -65,36 +79,21 @@ module _ (p : List ℕ) (d : Sizes) where
     unfolding readyIn sight
     ready-none l = rw (le-leb (d .t) t l)
 
-    module _ (l : t < d .t) (x : StageRow) (e : x ≡ stageSeen (taskIn p d t)) where
-      -- the stage alone decides
-      ready-seen : (n : ℕ) → ((y : TaskRow) → x ≡ stageSeen y → n ≡ readyRow y) → n ≡ readyIn (sight p d) t
-      unfolding readyIn sight
-      ready-seen n h = h (taskIn p d t) e ∙ rw (lt-leb (d .t) t l)
+    module _ (l : t < d .t) (c : ℕ) (e : c ≡ getD (taskPart p d t) 0 0) where
+      -- the code alone decides
+      ready-coded : (n : ℕ) → n ≡ (if isCode c then (if busy (stageFrom c) then 5 else 0) else 2) → n ≡ readyIn (sight p d) t
+      unfolding readyIn sight taskSeen taskSeenOf
+      ready-coded n f = f ∙ rw (lt-leb (d .t) t l, e) (by-test (isCode (getD (taskPart p d t) 0 0)) (λ o. rw o (unfold readyRow taskRead in refl)) (λ o. rw o (unfold readyRow in refl)))
 
-      pub ready-bad : x ≡ stagerow.Bad → 2 ≡ readyIn (sight p d) t
-      ready-bad f = ready-seen 2 at
-        where
-          at : (y : TaskRow) → x ≡ stageSeen y → 2 ≡ readyRow y
-          at taskrow.Bad h = unfold readyRow in refl
-          at (taskrow.Row k) h = let q : stagerow.At (k .stage) ≡ stagerow.Bad = sym h ∙ f in let z : _≡_ {A = ℕ} 0 1 = cc in absurd (omega arith)
+      pub ready-idle : c ≡ 0 → 0 ≡ readyIn (sight p d) t
+      ready-idle z = ready-coded 0 (rw z (unfold isCode codeOf stageFrom stageOf in refl))
 
-      -- a row whose stage was read
-      ready-at : (g : Stage) (n : ℕ) → x ≡ stagerow.At g → n ≡ (if busy g then 5 else 0) → n ≡ readyIn (sight p d) t
-      ready-at g n f i = ready-seen n at
-        where
-          at : (y : TaskRow) → x ≡ stageSeen y → n ≡ readyRow y
-          at taskrow.Bad h = let q : stagerow.Bad ≡ stagerow.At g = sym h ∙ f in let z : _≡_ {A = ℕ} 0 1 = cc in absurd (omega arith)
-          at (taskrow.Row k) h =
-              let q : stagerow.At g ≡ stagerow.At (k .stage) = sym f ∙ h in
-              let same : g ≡ k .stage = cc in
-              subst (λ (z : Stage). n ≡ (if busy z then 5 else 0)) same i ∙ row-ready k
+      module _ (r : Bool) (i : r ≡ isCode c) where
+        pub ready-busy : (c ≡ 0 → ⊥) → r ≡ true → 5 ≡ readyIn (sight p d) t
+        ready-busy z o = ready-coded 5 (rw (← i, o, code-busy c z (sym i ∙ o)))
 
-      module _ (g : Stage) (f : x ≡ stagerow.At g) (b : Bool) (i : b ≡ busy g) where
-        pub ready-busy : b ≡ true → 5 ≡ readyIn (sight p d) t
-        ready-busy o = ready-at g 5 f (rw (← i, o))
-
-        pub ready-idle : b ≡ false → 0 ≡ readyIn (sight p d) t
-        ready-idle o = ready-at g 0 f (rw (← i, o))
+        pub ready-bad : r ≡ false → 2 ≡ readyIn (sight p d) t
+        ready-bad o = ready-coded 2 (rw (← i, o))
 
     -- a task that may start is there
     pub ready-there : (n : ℕ) → n ≡ readyIn (sight p d) t → n ≡ 0 → t < d .t
@@ -106,7 +105,7 @@ module _ (p : List ℕ) (d : Sizes) where
     unfolding liveIn sight
     live-none l = rw (le-leb (d .h) (slotOf h) l)
 
-    pub live-is : (r : Live) (x : SlotRow) → slotOf h < d .h → x ≡ slotIn p d (slotOf h) → r ≡ liveRow x h → r ≡ liveIn (sight p d) h
+    pub live-is : (r : Live) (x : SlotRow) → slotOf h < d .h → x ≡ slotSeen p d (slotOf h) → r ≡ liveRow x h → r ≡ liveIn (sight p d) h
     unfolding liveIn sight
     live-is r x l e f = f ∙ rw (lt-leb (d .h) (slotOf h) l, e)
 
@@ -120,13 +119,13 @@ module _ (p : List ℕ) (d : Sizes) where
 
   -- ---- a slot is reserved
 
-  module _ (t j : ℕ) (k : Task) (s : Said) (y : SlotRow) (e : y ≡ slotIn p d j) where
-    pub reserve-bad : y ≡ slotrow.Bad → s ≡ saidOf (reply.Refused 2) → (p, s) ≡ does (reservesFor (slotIn p d j) j t k)
+  module _ (t j : ℕ) (k : Task) (s : Said) (y : SlotRow) (e : y ≡ slotSeen p d j) where
+    pub reserve-bad : y ≡ slotrow.Bad → s ≡ saidOf (reply.Refused 2) → (p, s) ≡ does (reservesFor (slotSeen p d j) j t k)
     unfolding reservesFor
     reserve-bad f g = refuses 2 s _ g (rw (← e, f))
 
     pub reserve-is : (x z : Slot) (w q : List ℕ) → y ≡ slotrow.Row x → z ≡ reservedAs (x .serial) → w ≡ putSlot p j z → q ≡ putTask w d t k → s ≡ saidOf reply.Quiet
-        → (q, s) ≡ does (reservesFor (slotIn p d j) j t k)
+        → (q, s) ≡ does (reservesFor (slotSeen p d j) j t k)
     unfolding reservesFor
     reserve-is x z w q f i u v g = rw (v, u, i, g, ← e, f) (does-seats p d t j (reservedAs (x .serial)) k reply.Quiet)
 
@@ -149,12 +148,12 @@ module _ (p : List ℕ) (d : Sizes) where
       unfolding newOn
       new-none f g = refuses 9 s _ g (rw (← e, f))
 
-      pub new-at : (j : ℕ) (k : Task) (q : List ℕ) → x ≡ found.At j → k ≡ maker v j → (q, s) ≡ does (reservesFor (slotIn p d j) j t k)
+      pub new-at : (j : ℕ) (k : Task) (q : List ℕ) → x ≡ found.At j → k ≡ maker v j → (q, s) ≡ does (reservesFor (slotSeen p d j) j t k)
           → (q, s) ≡ does (newOn (vacantIn (sight p d)) (sight p d) t v)
       unfolding newOn
       new-at j k q f i g = g ∙ ap does (same ∙ rw (← e, f))
         where
-          same : reservesFor (slotIn p d j) j t k ≡ reservesFor (sight p d .slot j) j t (maker v j)
+          same : reservesFor (slotSeen p d j) j t k ≡ reservesFor (sight p d .slot j) j t (maker v j)
           same = unfold sight in rw i
 
     module _ (y : Slot) (h i v : ℕ) where
@@ -166,12 +165,12 @@ module _ (p : List ℕ) (d : Sizes) where
       unfolding setAt
       set-none f g = refuses 9 s _ g (rw (← e, f))
 
-      pub set-at : (j : ℕ) (k : Task) (q : List ℕ) → x ≡ found.At j → k ≡ begunOn y h stage.Exchange i v 0 j → (q, s) ≡ does (reservesFor (slotIn p d j) j t k)
+      pub set-at : (j : ℕ) (k : Task) (q : List ℕ) → x ≡ found.At j → k ≡ begunOn y h stage.Exchange i v 0 j → (q, s) ≡ does (reservesFor (slotSeen p d j) j t k)
           → (q, s) ≡ does (setAt (vacantIn (sight p d)) (sight p d) y t h i v)
       unfolding setAt
       set-at j k q f m g = g ∙ ap does (same ∙ rw (← e, f))
         where
-          same : reservesFor (slotIn p d j) j t k ≡ reservesFor (sight p d .slot j) j t (begunOn y h stage.Exchange i v 0 j)
+          same : reservesFor (slotSeen p d j) j t k ≡ reservesFor (sight p d .slot j) j t (begunOn y h stage.Exchange i v 0 j)
           same = unfold sight in rw m
 
   -- ---- on a live handle
@@ -279,7 +278,7 @@ module _ (p : List ℕ) (d : Sizes) where
           unfolding planPage pageOn
           page-dead v = refuses m s _ g (ap (λ (z : Live). pageOn z (sight p d) t h i v) (sym r ∙ f) ∙ readied _)
 
-pub ruleset asks = (ready-none, ready-bad, ready-busy, ready-idle, live-none, live-is)
+pub ruleset asks = (ready-none, ready-idle, ready-busy, ready-bad, live-none, live-is)
 
 pub ruleset reserves = (reserve-bad, reserve-is, reserve-spans, vacant-there, new-bad, new-none, new-at, set-bad, set-none, set-at)
 

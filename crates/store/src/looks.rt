@@ -83,7 +83,7 @@ pub fn look_log(words: &[u32], b: u32, i: u32) -> Reply
 
 // An entry of a log whose length was read.
 fn entry_under(words: &[u32], d: Sizes, x: Looked, b: u32, i: u32, j: u32) -> Reply
-    requires { ⌜ Spans d (now words) × (b < d .b) ⌝ }
+    requires { ⌜ Spans d (now words) ⌝ }
     ensures { λ r. ⌜ r ≡ seesUnder x (sight (now (words .entry)) d) b i j ⌝ }
 {
     let Looked::Word(m) = x else {
@@ -123,7 +123,7 @@ pub fn look_task(words: &[u32], t: u32) -> Reply
     if d.t <= t {
         return Reply::Refused(4);
     }
-    let x = pool::load_task(words, d, t);
+    let x = pool::see_task(words, d, t);
     sees_row(x)
 }
 

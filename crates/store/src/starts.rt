@@ -3,14 +3,12 @@ use acts::Found;
 use acts::Live;
 use acts::Said;
 use acts::SlotRow;
-use acts::StageRow;
 use acts::searches::live_row;
 use acts::searches::release_refusal;
 use acts::starts::begun_on;
 use acts::starts::getter;
 use acts::starts::maker;
 use acts::tasks::freed;
-use acts::tasks::is_busy;
 use acts::tasks::reserved_as;
 use acts::words::quiet;
 use acts::words::refuses;
@@ -26,7 +24,7 @@ ghost use Prim.Native.Nat.{_%_, _<_};
 ghost use Rattle.acts.specs.Plans.{getOn, liveIn, newOn, pageOn, planGet, planNew, planPage, planRelease, planSet, readyIn, reservesFor, setAt, setOn, vacantIn};
 ghost use Rattle.acts.specs.Said.{toldIn};
 ghost use Rattle.pool.specs.Places.{Spans};
-ghost use Rattle.pool.specs.Pool.{appliedIn, sight, slotIn};
+ghost use Rattle.pool.specs.Pool.{appliedIn, sight, slotSeen};
 ghost use Rattle.store.specs.Releases.{OnBelow, freedOn};
 
 // ---- what is asked first
@@ -39,13 +37,14 @@ fn ready(words: &[u32], d: Sizes, t: u32) -> u32
     if d.t <= t {
         return 4;
     }
-    let StageRow::At(g) = pool::stage_at(words, d, t) else {
-        return 2;
-    };
-    if is_busy(g) {
+    let c = pool::code_at(words, d, t);
+    if c == 0 {
+        return 0;
+    }
+    if pool::is_code(c) {
         return 5;
     }
-    0
+    2
 }
 
 // The slot of the handle h, where it is live with that serial.
@@ -57,16 +56,16 @@ fn live_slot(words: &[u32], d: Sizes, h: u32) -> Live
     if d.h <= j {
         return Live::Not(7);
     }
-    let x = pool::load_slot(words, d, j);
+    let x = pool::see_slot(words, d, j);
     live_row(x, h)
 }
 
 // Slot j is reserved for the task k, which is started.
 fn reserve(words: &mut [u32], d: Sizes, j: u32, t: u32, k: Task) -> Said
     requires { ⌜ Spans d (now words) × (j < d .h) × (t < d .t) ⌝ }
-    ensures { λ r. ⌜ (now (words .exit), r) ≡ toldIn (appliedIn (now (words .entry)) d (reservesFor (slotIn (now (words .entry)) d j) j t k)) ⌝ }
+    ensures { λ r. ⌜ (now (words .exit), r) ≡ toldIn (appliedIn (now (words .entry)) d (reservesFor (slotSeen (now (words .entry)) d j) j t k)) ⌝ }
 {
-    let SlotRow::Row(y) = pool::load_slot(words, d, j) else {
+    let SlotRow::Row(y) = pool::see_slot(words, d, j) else {
         return refuses(2);
     };
     let z = reserved_as(y.serial);

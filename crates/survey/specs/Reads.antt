@@ -7,12 +7,15 @@ use mathlib.Core.Path.{_∙_, _≡_, ap, refl, sym}
 use native.Mathlib.Numerals.{add-one}
 use native.Mathlib.Omega.{arith}
 use lib.Dec.{eqb}
+use borrow.Author.Tests.{lt-ltb}
 use Rattle.block.specs.declared.Looked.{Looked}
 use Rattle.block.specs.declared.Probed.{Probed}
 use Rattle.rulebook.specs.declared.Entry.{Entry}
 use Rattle.rulebook.specs.declared.Sizes.{Sizes}
 use Rattle.rulebook.specs.declared.Slot.{Slot}
-use Rattle.pool.specs.Places.{slotPart}
+use Rattle.block.specs.Words.{entryIn, lengthIn, versionIn}
+use Rattle.pool.specs.Places.{blockPart, slotPart}
+use Rattle.pool.specs.Pool.{entrySeen, lengthSeen, versionSeen}
 use Rattle.pool.specs.Rows.{slotRead}
 use Rattle.pool.specs.View.{view-slot-at, view-slots}
 use Rattle.rulebook.specs.State.{freed, isLive, stood}
@@ -27,17 +30,17 @@ use Rattle.block.specs.declared.Probed.the-variants as probed
 abbrev pub outside : ℕ
 outside = 4294967295
 
-abbrev pub versionSeen : Looked → ℕ
-versionSeen (looked.Word v) = v
-versionSeen looked.Bad = 0
+abbrev pub versionShown : Looked → ℕ
+versionShown (looked.Word v) = v
+versionShown looked.Bad = 0
 
-abbrev pub lengthSeen : Looked → ℕ
-lengthSeen (looked.Word m) = m
-lengthSeen looked.Bad = outside
+abbrev pub lengthShown : Looked → ℕ
+lengthShown (looked.Word m) = m
+lengthShown looked.Bad = outside
 
-abbrev pub stampSeen : Probed → ℕ
-stampSeen (probed.Found e) = e .version
-stampSeen probed.Bad = outside
+abbrev pub stampShown : Probed → ℕ
+stampShown (probed.Found e) = e .version
+stampShown probed.Bad = outside
 
 -- the handle in slot j is live, and stands on block k
 unfoldable pub standsOn : Sizes → List ℕ → ℕ → ℕ → Bool
@@ -45,25 +48,40 @@ standsOn d p k j = isLive (slot d p j .status) && eqb (slot d p j .block) k
 
 -- ---- one law for each way out
 
-module _ (x y : Looked) (e : x ≡ y) where
-  pub version-word : (v : ℕ) → x ≡ looked.Word v → v ≡ versionSeen y
-  version-word v f = ap versionSeen (sym f ∙ e)
+module _ (d : Sizes) (p : List ℕ) (k : ℕ) (l : k < d .b) where
+  module _ (x : Looked) where
+    module _ (e : x ≡ versionSeen p d k) where
+      there : x ≡ versionIn (d .n) (blockPart p d k)
+      unfolding versionSeen
+      there = e ∙ rw (lt-ltb k (d .b) l)
 
-  pub version-bad : x ≡ looked.Bad → 0 ≡ versionSeen y
-  version-bad f = ap versionSeen (sym f ∙ e)
+      pub version-word : (v : ℕ) → x ≡ looked.Word v → v ≡ versionShown (versionIn (d .n) (blockPart p d k))
+      version-word v f = ap versionShown (sym f ∙ there)
 
-  pub length-word : (m : ℕ) → x ≡ looked.Word m → m ≡ lengthSeen y
-  length-word m f = ap lengthSeen (sym f ∙ e)
+      pub version-bad : x ≡ looked.Bad → 0 ≡ versionShown (versionIn (d .n) (blockPart p d k))
+      version-bad f = ap versionShown (sym f ∙ there)
 
-  pub length-bad : x ≡ looked.Bad → outside ≡ lengthSeen y
-  length-bad f = ap lengthSeen (sym f ∙ e)
+    module _ (i : ℕ) (e : x ≡ lengthSeen p d k i) where
+      long-there : x ≡ lengthIn (d .n) (blockPart p d k) i
+      unfolding lengthSeen
+      long-there = e ∙ rw (lt-ltb k (d .b) l)
 
-module _ (x y : Probed) (e : x ≡ y) where
-  pub stamp-found : (z : Entry) → x ≡ probed.Found z → z .version ≡ stampSeen y
-  stamp-found z f = ap stampSeen (sym f ∙ e)
+      pub length-word : (m : ℕ) → x ≡ looked.Word m → m ≡ lengthShown (lengthIn (d .n) (blockPart p d k) i)
+      length-word m f = ap lengthShown (sym f ∙ long-there)
 
-  pub stamp-bad : x ≡ probed.Bad → outside ≡ stampSeen y
-  stamp-bad f = ap stampSeen (sym f ∙ e)
+      pub length-bad : x ≡ looked.Bad → outside ≡ lengthShown (lengthIn (d .n) (blockPart p d k) i)
+      length-bad f = ap lengthShown (sym f ∙ long-there)
+
+  module _ (x : Probed) (i j : ℕ) (e : x ≡ entrySeen p d k i j) where
+    entry-there : x ≡ entryIn (d .n) (blockPart p d k) i j
+    unfolding entrySeen
+    entry-there = e ∙ rw (lt-ltb k (d .b) l)
+
+    pub stamp-found : (z : Entry) → x ≡ probed.Found z → z .version ≡ stampShown (entryIn (d .n) (blockPart p d k) i j)
+    stamp-found z f = ap stampShown (sym f ∙ entry-there)
+
+    pub stamp-bad : x ≡ probed.Bad → outside ≡ stampShown (entryIn (d .n) (blockPart p d k) i j)
+    stamp-bad f = ap stampShown (sym f ∙ entry-there)
 
 pub ruleset seen = (version-word, version-bad, length-word, length-bad, stamp-found, stamp-bad)
 

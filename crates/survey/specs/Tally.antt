@@ -28,7 +28,7 @@ use Rattle.theorems.specs.Terms.{allTo, entries}
 use Rattle.survey.specs.Broken.{rule4, rule4At}
 use Rattle.survey.specs.Decide.{_implies_}
 use Rattle.survey.specs.Logs.{rule-readable, three-blocks}
-use Rattle.survey.specs.Reads.{lengthSeen, versionSeen}
+use Rattle.survey.specs.Reads.{lengthShown, versionShown}
 use Rattle.survey.specs.Rules.{Readable, Rule2, Rule3, shown}
 use Rattle.survey.specs.Ways.{version-here}
 use Rattle.block.specs.declared.Looked.the-variants as looked
@@ -74,8 +74,8 @@ module _ (d : Sizes) (p : List ℕ) where
     length-reads =
         rw (block-cell (d .n) (blockPart p d k) i (block-sized (s .spans) k (s .below)) l, le-leb (lengthOf (d .n) (blockPart p d k) i) (d .n) (s .logs .short i l))
 
-    pub length-is : (m : ℕ) → m ≡ lengthSeen (lengthIn (d .n) (blockPart p d k) i) → m ≡ lengthOf (d .n) (blockPart p d k) i
-    length-is m e = e ∙ ap lengthSeen length-reads
+    pub length-is : (m : ℕ) → m ≡ lengthShown (lengthIn (d .n) (blockPart p d k) i) → m ≡ lengthOf (d .n) (blockPart p d k) i
+    length-is m e = e ∙ ap lengthShown length-reads
 
   module _ (k : ℕ) where
     pub counts-spans : Counts k → Spans d p
@@ -91,7 +91,7 @@ module _ (d : Sizes) (p : List ℕ) where
       pub tally-below : k < d .b
       tally-below = s .on .below
 
-      module _ (m : ℕ) (l : i < d .n) (e : m ≡ lengthSeen (lengthIn (d .n) (blockPart p d k) i)) where
+      module _ (m : ℕ) (l : i < d .n) (e : m ≡ lengthShown (lengthIn (d .n) (blockPart p d k) i)) where
         is-length : m ≡ lengthOf (d .n) (blockPart p d k) i
         is-length = length-is k (s .on) i l m e
 
@@ -119,7 +119,7 @@ module _ (d : Sizes) (p : List ℕ) where
     four-free q = rw (← e, not-true b q)
 
     module _ (q : not b ≡ false) (total : ℕ) (f : total ≡ entries (blockAt (shown d p) k .logs)) (sp : Spans d p) (l : k < d .b)
-        (v : ℕ) (g : v ≡ versionSeen (versionIn (d .n) (blockPart p d k))) where
+        (v : ℕ) (g : v ≡ versionShown (versionIn (d .n) (blockPart p d k))) where
       pub four-version : v < total → false ≡ rule4At d p k
       unfolding rule4At
       four-version o =

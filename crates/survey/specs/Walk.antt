@@ -21,7 +21,7 @@ use Rattle.rulebook.specs.Tests.{by-test}
 use Rattle.survey.specs.Broken.{rule3}
 use Rattle.survey.specs.Decided.{decides-3}
 use Rattle.survey.specs.Logs.{BlockRule, EntryRule, LogRule, blocks-three, climb, stampOf, stood-version, three-blocks}
-use Rattle.survey.specs.Reads.{lengthSeen, outside, stampSeen, versionSeen}
+use Rattle.survey.specs.Reads.{lengthShown, outside, stampShown, versionShown}
 use Rattle.survey.specs.Rules.{Rule2, Rule3, shown}
 use Rattle.block.specs.declared.Looked.the-variants as looked
 
@@ -109,12 +109,12 @@ module _ (d : Sizes) (p : List ℕ) where
 
   -- ---- a block
 
-  version-is : Spans d p → (k : ℕ) → k < d .b → (v : ℕ) → v ≡ versionSeen (versionIn (d .n) (wordsOf k)) → v ≡ versionOf (wordsOf k)
+  version-is : Spans d p → (k : ℕ) → k < d .b → (v : ℕ) → v ≡ versionShown (versionIn (d .n) (wordsOf k)) → v ≡ versionOf (wordsOf k)
   unfolding versionIn
   version-is sp k l v e = e ∙ rw (sized-block (d .n) (wordsOf k) (block-sized sp k l))
 
   pub logs-start : (k v : ℕ) (kept b : Bool) → BlocksAt k kept → Spans d p → Rule2 d p → k < d .b → b ≡ stood (shown d p) k → not b ≡ false
-      → v ≡ versionSeen (versionIn (d .n) (wordsOf k)) → LogsAt k v (replicate mostVersions 1) 0 kept
+      → v ≡ versionShown (versionIn (d .n) (wordsOf k)) → LogsAt k v (replicate mostVersions 1) 0 kept
   logs-start k v kept b s sp two l e q f =
       let st = sym e ∙ not-false b q in
       let is = version-is sp k l v f in
@@ -148,7 +148,7 @@ module _ (d : Sizes) (p : List ℕ) where
               apart = λ a c j t la lc lj lt e. s .met .once a j c t (lj, inl (omega arith)) (lt, inl (omega arith)) e .0;
             }
 
-    module _ (m : ℕ) (l : i < d .n) (e : m ≡ lengthSeen (lengthIn (d .n) (wordsOf k) i)) where
+    module _ (m : ℕ) (l : i < d .n) (e : m ≡ lengthShown (lengthIn (d .n) (wordsOf k) i)) where
       has : hasCell (d .n) (wordsOf k) i ≡ true
       has = block-cell (d .n) (wordsOf k) i (block-sized (s .on .spans) k (s .on .below)) l
 
@@ -204,7 +204,7 @@ module _ (d : Sizes) (p : List ℕ) where
         here : LogRule (d .n) (wordsOf k) i
         here = record { short = (let e = s .is in let q = s .short in omega arith); entries = λ x o. s .entries x (let e = s .is in omega arith) }
 
-    module _ (at : ℕ) (l : j < m) (e : at ≡ stampSeen (entryIn (d .n) (wordsOf k) i j)) where
+    module _ (at : ℕ) (l : j < m) (e : at ≡ stampShown (entryIn (d .n) (wordsOf k) i j)) where
       in-log : j < lengthAt k i
       in-log = let q = s .is in omega arith
 

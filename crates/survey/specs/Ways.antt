@@ -24,7 +24,7 @@ use Rattle.theorems.specs.Terms.{allTo}
 use Rattle.survey.specs.Broken.{freshApart, freshAt, isReserved, namedAt, offTarget, ownerAt, ownsAt, rule2, rule2At, rule6, rule6At, standsAs, targetApart, targetAt}
 use Rattle.survey.specs.Decide.{all-at, someTo}
 use Rattle.survey.specs.Decided.{slot-beyond}
-use Rattle.survey.specs.Reads.{some-end, some-on, some-start, some-stop, versionSeen}
+use Rattle.survey.specs.Reads.{some-end, some-on, some-start, some-stop, versionShown}
 use Rattle.survey.specs.Rules.{shown, slot, task}
 use Rattle.rulebook.specs.declared.Status.the-variants as status
 
@@ -63,7 +63,7 @@ module _ (d : Sizes) (p : List ℕ) where
 
   -- ---- rule 2
 
-  pub version-here : Spans d p → (k : ℕ) → k < d .b → (v : ℕ) → v ≡ versionSeen (versionIn (d .n) (blockPart p d k)) → blockAt (shown d p) k .version ≡ v
+  pub version-here : Spans d p → (k : ℕ) → k < d .b → (v : ℕ) → v ≡ versionShown (versionIn (d .n) (blockPart p d k)) → blockAt (shown d p) k .version ≡ v
   unfolding versionIn
   version-here sp k l v e =
       ap (λ (b : Block). b .version) (view-block-at d p k l) ∙ version-at (d .n) (blockPart p d k)
@@ -79,7 +79,7 @@ module _ (d : Sizes) (p : List ℕ) where
       unfolding rule2At
       two-far o = rw (slot-as j x e l, ← f, not-false b q, le-ltb (x .block) (d .b) o)
 
-      module _ (o : x .block < d .b) (sp : Spans d p) (v : ℕ) (g : v ≡ versionSeen (versionIn (d .n) (blockPart p d (x .block)))) where
+      module _ (o : x .block < d .b) (sp : Spans d p) (v : ℕ) (g : v ≡ versionShown (versionIn (d .n) (blockPart p d (x .block)))) where
         pub two-low : v < x .number → false ≡ rule2At d p j
         unfolding rule2At
         two-low i = rw (slot-as j x e l, ← f, not-false b q, lt-ltb (x .block) (d .b) o, version-here sp (x .block) o v g, lt-leb (x .number) v i)

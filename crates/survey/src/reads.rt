@@ -6,7 +6,7 @@ ghost use mathlib.Core.Path.{_≡_};
 ghost use Prim.Native.Nat.{_<_};
 ghost use Rattle.block.specs.Words.{versionIn, lengthIn, entryIn};
 ghost use Rattle.pool.specs.Places.{Spans, blockPart};
-ghost use Rattle.survey.specs.Reads.{versionSeen, lengthSeen, stampSeen};
+ghost use Rattle.survey.specs.Reads.{versionShown, lengthShown, stampShown};
 
 // A version that no entry has.
 const OUTSIDE: u32 = 4294967295;
@@ -14,7 +14,7 @@ const OUTSIDE: u32 = 4294967295;
 // V of block k.
 pub fn version_of(words: &[u32], d: Sizes, k: u32) -> u32
     requires { ⌜ Spans d (now words) × (k < d .b) ⌝ }
-    ensures { λ r. ⌜ r ≡ versionSeen (versionIn (d .n) (blockPart (now (words .entry)) d k)) ⌝ }
+    ensures { λ r. ⌜ r ≡ versionShown (versionIn (d .n) (blockPart (now (words .entry)) d k)) ⌝ }
 {
     match pool::version(words, d, k) {
         Looked::Word(v) => v,
@@ -25,7 +25,7 @@ pub fn version_of(words: &[u32], d: Sizes, k: u32) -> u32
 // The length of the log of its cell i, or a number above N.
 pub fn length_of(words: &[u32], d: Sizes, k: u32, i: u32) -> u32
     requires { ⌜ Spans d (now words) × (k < d .b) ⌝ }
-    ensures { λ r. ⌜ r ≡ lengthSeen (lengthIn (d .n) (blockPart (now (words .entry)) d k) i) ⌝ }
+    ensures { λ r. ⌜ r ≡ lengthShown (lengthIn (d .n) (blockPart (now (words .entry)) d k) i) ⌝ }
 {
     match pool::log_length(words, d, k, i) {
         Looked::Word(m) => m,
@@ -36,7 +36,7 @@ pub fn length_of(words: &[u32], d: Sizes, k: u32, i: u32) -> u32
 // The version of entry j of that log.
 pub fn stamp_of(words: &[u32], d: Sizes, k: u32, i: u32, j: u32) -> u32
     requires { ⌜ Spans d (now words) × (k < d .b) ⌝ }
-    ensures { λ r. ⌜ r ≡ stampSeen (entryIn (d .n) (blockPart (now (words .entry)) d k) i j) ⌝ }
+    ensures { λ r. ⌜ r ≡ stampShown (entryIn (d .n) (blockPart (now (words .entry)) d k) i j) ⌝ }
 {
     match pool::entry(words, d, k, i, j) {
         Probed::Found(e) => e.version,

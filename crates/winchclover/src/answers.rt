@@ -11,7 +11,7 @@ ghost use lib.ListN.{length};
 ghost use Rattle.rulebook.specs.Answers.{operation, readingCode, stageCode};
 ghost use Rattle.acts.specs.Said.{saidOf};
 ghost use Rattle.rulebook.specs.Sizes.{if_then_else_};
-ghost use Rattle.winchclover.specs.Answered.{saidIn, spokenIn};
+ghost use Rattle.winchclover.specs.Answered.{hushed, listedIn, saidIn, spokenIn};
 
 fn reading_code(r: Reading) -> u32
     ensures { λ c. ⌜ c ≡ readingCode r ⌝ }
@@ -80,6 +80,7 @@ fn said_of_task(k: Task) -> Said
     let c = stage_code(g);
     let f = bit(h.found);
     Said {
+        silent: false,
         refusal: 0,
         first: o,
         second: c,
@@ -96,25 +97,48 @@ fn said_of(r: Reply) -> Said
     ensures { λ s. ⌜ s ≡ saidOf r ⌝ }
 {
     match r {
-        Reply::Refused(n) => few(n, 0, 0, 0, 0, 0),
-        Reply::Full(steps) => few(10, 2, steps, 0, 0, 0),
-        Reply::Quiet => few(0, 0, 0, 0, 0, 0),
-        Reply::Opened(b) => few(0, b, 0, 0, 0, 0),
-        Reply::Handed(i, v) => few(0, 1, 0, 0, i, v),
-        Reply::HandedLast(steps, i, v) => few(0, 3, steps, 0, i, v),
-        Reply::Got(steps, i, v) => few(0, 2, steps, 0, i, v),
-        Reply::Made(steps, h) => few(0, 2, steps, h, 0, 0),
-        Reply::Shown(x) => few(0, x, 0, 0, 0, 0),
-        Reply::ShownEntry(e) => few(0, e.version, e.old, 0, 0, 0),
+        Reply::Refused(n) => few(true, n, 0, 0, 0, 0, 0),
+        Reply::Full(steps) => few(false, 10, 2, steps, 0, 0, 0),
+        Reply::Quiet => few(true, 0, 0, 0, 0, 0, 0),
+        Reply::Opened(b) => few(false, 0, b, 0, 0, 0, 0),
+        Reply::Handed(i, v) => few(false, 0, 1, 0, 0, i, v),
+        Reply::HandedLast(steps, i, v) => few(false, 0, 3, steps, 0, i, v),
+        Reply::Got(steps, i, v) => few(false, 0, 2, steps, 0, i, v),
+        Reply::Made(steps, h) => few(false, 0, 2, steps, h, 0, 0),
+        Reply::Shown(x) => few(false, 0, x, 0, 0, 0, 0),
+        Reply::ShownEntry(e) => few(false, 0, e.version, e.old, 0, 0, 0),
         Reply::ShownTask(k) => said_of_task(k),
-        Reply::Reported(handles, blocks) => few(0, handles, blocks, 0, 0, 0),
+        Reply::Reported(handles, blocks) => few(false, 0, handles, blocks, 0, 0, 0),
     }
 }
 
-// The words of an answer, and 0 in the rest of 16; the refusal number is returned.
-pub fn say(answer: &mut [u32], s: Said) -> u32
+// 16 zeros.
+fn hush(words: &mut [u32])
+    requires { ⌜ 16 ≤ length (now words) ⌝ }
+    ensures { λ _. ⌜ now (words .exit) ≡ hushed (now (words .entry)) ⌝ }
+{
+    words[0] = 0;
+    words[1] = 0;
+    words[2] = 0;
+    words[3] = 0;
+    words[4] = 0;
+    words[5] = 0;
+    words[6] = 0;
+    words[7] = 0;
+    words[8] = 0;
+    words[9] = 0;
+    words[10] = 0;
+    words[11] = 0;
+    words[12] = 0;
+    words[13] = 0;
+    words[14] = 0;
+    words[15] = 0;
+}
+
+// The numbers of an answer, and 0 in the rest of 16.
+fn list(answer: &mut [u32], s: Said)
     requires { ⌜ 16 ≤ length (now answer) ⌝ }
-    ensures { λ n. ⌜ (now (answer .exit), n) ≡ spokenIn (now (answer .entry)) s ⌝ }
+    ensures { λ _. ⌜ now (answer .exit) ≡ listedIn (now (answer .entry)) s ⌝ }
 {
     answer[0] = s.first;
     answer[1] = s.second;
@@ -132,6 +156,18 @@ pub fn say(answer: &mut [u32], s: Said) -> u32
     answer[13] = 0;
     answer[14] = 0;
     answer[15] = 0;
+}
+
+// The words of an answer; the refusal number is returned. Most steps say nothing: they go the short way.
+pub fn say(answer: &mut [u32], s: Said) -> u32
+    requires { ⌜ 16 ≤ length (now answer) ⌝ }
+    ensures { λ n. ⌜ (now (answer .exit), n) ≡ spokenIn (now (answer .entry)) s ⌝ }
+{
+    if s.silent {
+        hush(answer);
+        return s.refusal;
+    }
+    list(answer, s);
     s.refusal
 }
 

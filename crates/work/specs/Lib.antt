@@ -3,6 +3,7 @@ pub mod Scans
 pub mod Reach
 pub mod Stepped
 pub mod Seen
+pub mod Coded
 pub mod Stages
 pub mod Works
 pub mod News

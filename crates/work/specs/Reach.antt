@@ -6,7 +6,8 @@ use mathlib.Core.List.{List}
 use mathlib.Core.Path.{_≡_, refl}
 use native.Mathlib.Omega.{arith}
 use lib.Dec.{eqb, leb, ltb}
-use borrow.Author.Tests.{leb-false, lt-ltb}
+use lib.ListN.{getD}
+use borrow.Author.Tests.{leb-false, lt-ltb, ltb-true}
 use Rattle.acts.specs.declared.Act.{Act}
 use Rattle.acts.specs.declared.Found.{Found}
 use Rattle.acts.specs.declared.Live.{Live}
@@ -19,16 +20,16 @@ use Rattle.rulebook.specs.declared.Sizes.{Sizes}
 use Rattle.rulebook.specs.declared.Slot.{Slot}
 use Rattle.rulebook.specs.declared.Stage.{Stage}
 use Rattle.rulebook.specs.declared.Task.{Task}
-use Rattle.acts.specs.Plans.{appendsEntry, copyGoes, ends, exchangesOn, fillsCopy, fillsNew, finishes, firstOf, foundIf, freeAt, freeIn, getGoes, getOn, givesUp, goes, holderIn, liveIn, newOn, orElse, pageGoes, pageOn, pageSettles, planAt, planGet, planNew, planPage, planRelease, planRow, planSet, planStep, puts, readIn, readsOld, readyIn, refused, releaseAt, releaseOn, reservesFor, setAt, setOn, takes, unheld, userIn, vacant, vacantAt, vacantIn, writesNew}
+use Rattle.acts.specs.Plans.{after, ends, firstOf, foundIf, freeIn, getOn, goes, liveIn, newOn, orElse, pageOn, planGet, planNew, planPage, planRelease, planSet, readyIn, refused, releaseAt, releaseOn, reservesFor, setAt, setOn, ticked, userIn, vacant, vacantAt, vacantIn}
+use Rattle.acts.specs.StepPlans.{appendsEntry, copyGoes, exchangesOn, fillsCopy, fillsNew, finishes, getGoes, givesUp, pageGoes, pageSettles, planAt, planRow, planStep, puts, readIn, readsOld, takes, writesNew}
 use Rattle.acts.specs.Sight.{Sight}
-use Rattle.pool.specs.Places.{Spans, taskPart}
-use Rattle.pool.specs.Pool.{InReach, sight, slotIn, slotNear, taskIn, taskNear, touchNear}
-use Rattle.pool.specs.Ranges.{task-ranged, task-row}
+use Rattle.pool.specs.Places.{Spans, slotPart}
+use Rattle.pool.specs.Pool.{InReach, sight, slotSeen, slotNear, taskSeen, taskNear}
+use Rattle.pool.specs.Rows.{slotSeenOf}
 use Rattle.rulebook.specs.Sizes.{if_then_else_, lastSerial, slotOf}
 use Rattle.rulebook.specs.State.{idle, isFree}
-use Rattle.rulebook.specs.Steps.{counted}
 use Rattle.rulebook.specs.Tests.{by-test, if-case}
-use Rattle.work.specs.Asked.{FoundBelow, Reaching}
+use Rattle.work.specs.Asked.{FoundBelow}
 use Rattle.acts.specs.declared.Found.the-variants as found
 use Rattle.acts.specs.declared.Live.the-variants as live
 use Rattle.acts.specs.declared.Read.the-variants as read
@@ -73,114 +74,99 @@ module _ (p : List ℕ) (d : Sizes) where
   vacant-names slotrow.Bad j = tt
   vacant-names (slotrow.Row y) j = names-if (isFree (y .status) && ltb (y .serial) lastSerial) j
 
-  free-names : (x : Found) (b : ℕ) → Names (unheld x b) b
-  unfolding unheld
-  free-names found.Bad b = tt
-  free-names (found.At j) b = tt
-  free-names found.None b = refl
-
   pub vacant-below : FoundBelow (vacantIn (sight p d)) (d .h)
   unfolding vacantIn vacantAt sight
-  vacant-below = first-below (λ (j : ℕ). vacant (slotIn p d j) j) (λ j. vacant-names (slotIn p d j) j) (d .h)
-
-  pub free-below : FoundBelow (freeIn (sight p d)) (d .b)
-  unfolding freeIn freeAt sight
-  free-below = first-below (λ (b : ℕ). unheld (holderIn (sight p d) b) b) (λ b. free-names (holderIn (sight p d) b) b) (d .b)
+  vacant-below = first-below (λ (j : ℕ). vacant (slotSeen p d j) j) (λ j. vacant-names (slotSeen p d j) j) (d .h)
 
 -- ---- acts
 
 module _ (d : Sizes) where
+  -- a slot whose row was read is there
+  abbrev Within : SlotRow → ℕ → Type 0
+  Within slotrow.Bad j = Unit
+  Within (slotrow.Row y) j = j < d .h
+
   pub reach-refused : (n : ℕ) → InReach d (refused n)
-  unfolding touchNear slotNear taskNear
-  reach-refused n = record { touch = refl; slot = refl; task = refl }
-
-  reach-task : (t : ℕ) (k : Task) (r : Reply) → t < d .t → InReach d (goes touch.Nothing t k r)
-  unfolding touchNear slotNear taskNear
-  reach-task t k r h = record { touch = refl; slot = refl; task = lt-ltb t (d .t) h }
-
-  reach-goes : (x : Touch) (t : ℕ) (k : Task) (r : Reply) → touchNear d x ≡ true → t < d .t → InReach d (goes x t k r)
   unfolding slotNear taskNear
-  reach-goes x t k r n h = record { touch = n; slot = refl; task = lt-ltb t (d .t) h }
+  reach-refused n = record { slot = refl; task = refl }
 
-  reach-ends : (x : Touch) (j : ℕ) (y : Slot) (t : ℕ) (k : Task) (r : Reply) → touchNear d x ≡ true → j < d .h → t < d .t → InReach d (ends x j y t k r)
+  reach-goes : (x : Touch) (t : ℕ) (k : Task) (r : Reply) → t < d .t → InReach d (goes x t k r)
   unfolding slotNear taskNear
-  reach-ends x j y t k r n i h = record { touch = n; slot = lt-ltb j (d .h) i; task = lt-ltb t (d .t) h }
+  reach-goes x t k r h = record { slot = refl; task = lt-ltb t (d .t) h }
+
+  reach-ends : (x : Touch) (j : ℕ) (y : Slot) (t : ℕ) (k : Task) (r : Reply) → j < d .h → t < d .t → InReach d (ends x j y t k r)
+  unfolding slotNear taskNear
+  reach-ends x j y t k r i h = record { slot = lt-ltb j (d .h) i; task = lt-ltb t (d .t) h }
 
   reach-if : (b : Bool) (x y : Act) → (b ≡ true → InReach d x) → (b ≡ false → InReach d y) → InReach d (if b then x else y)
   reach-if b x y f g = if-case (InReach d) b f g
 
   module _ (t : ℕ) (inT : t < d .t) where
     reach-reserve : (y : SlotRow) (j : ℕ) (k : Task) → j < d .h → InReach d (reservesFor y j t k)
-    unfolding reservesFor touchNear
+    unfolding reservesFor
     reach-reserve slotrow.Bad j k h = reach-refused 2
-    reach-reserve (slotrow.Row x) j k h = reach-ends touch.Nothing j _ t k reply.Quiet refl h inT
+    reach-reserve (slotrow.Row x) j k h = reach-ends touch.Nothing j _ t k reply.Quiet h inT
 
     reach-get : (q : reads.Read) (k : Task) → InReach d (getGoes q t k) × InReach d (pageGoes q t k) × InReach d (copyGoes q t k)
     unfolding getGoes pageGoes pageSettles copyGoes
     reach-get read.Bad k = (reach-refused 2, reach-refused 2, reach-refused 2)
-    reach-get (read.Got (progress.Going r w)) k = (reach-task t _ _ inT, reach-task t _ _ inT, reach-task t _ _ inT)
+    reach-get (read.Got (progress.Going r w)) k = (reach-goes touch.Nothing t _ _ inT, reach-goes touch.Nothing t _ _ inT, reach-goes touch.Nothing t _ _ inT)
     reach-get (read.Got (progress.Settled w)) k =
-        (reach-task t _ _ inT, reach-if (eqb (w .cell + 1) (k .until)) _ _ (λ _. reach-task t _ _ inT) (λ _. reach-task t _ _ inT), reach-task t _ _ inT)
+        (reach-goes touch.Nothing t _ _ inT, reach-if (eqb (after (w .cell)) (k .until)) _ _ (λ _. reach-goes touch.Nothing t _ _ inT) (λ _. reach-goes touch.Nothing t _ _ inT), reach-goes touch.Nothing t _ _ inT)
 
-    reach-finish : (y : SlotRow) (x : Touch) (k : Task) (b L : ℕ) → touchNear d x ≡ true → k .fresh < d .h → InReach d (finishes y x t k b L)
+    reach-finish : (y : SlotRow) (x : Touch) (k : Task) (b L : ℕ) → Within y (k .fresh) → InReach d (finishes y x t k b L)
     unfolding finishes
-    reach-finish slotrow.Bad x k b L n h = reach-refused 2
-    reach-finish (slotrow.Row y) x k b L n h = reach-if (leb lastSerial (y .serial)) _ _ (λ _. reach-refused 2) (λ _. reach-ends x (k .fresh) _ t idle _ n h inT)
+    reach-finish slotrow.Bad x k b L h = reach-refused 2
+    reach-finish (slotrow.Row y) x k b L h = reach-if (leb lastSerial (y .serial)) _ _ (λ _. reach-refused 2) (λ _. reach-ends x (k .fresh) _ t idle _ h inT)
 
-    reach-give : (y : SlotRow) (k : Task) → k .fresh < d .h → InReach d (givesUp y t k)
-    unfolding givesUp touchNear
+    reach-give : (y : SlotRow) (k : Task) → Within y (k .fresh) → InReach d (givesUp y t k)
+    unfolding givesUp
     reach-give slotrow.Bad k h = reach-refused 2
-    reach-give (slotrow.Row y) k h = reach-ends touch.Nothing (k .fresh) _ t idle _ refl h inT
+    reach-give (slotrow.Row y) k h = reach-ends touch.Nothing (k .fresh) _ t idle _ h inT
 
-    reach-take : (x : Found) (e : Sight) (k : Task) (g : Stage) → FoundBelow x (d .b) → k .fresh < d .h → InReach d (takes x e t k g)
-    unfolding takes touchNear
-    reach-take found.Bad e k g n h = reach-refused 2
-    reach-take (found.At b) e k g n h = reach-goes (touch.Take b) t _ _ (lt-ltb b (d .b) n) inT
-    reach-take found.None e k g n h = reach-give (e .slot (k .fresh)) k h
+    reach-take : (x : Found) (e : Sight) (k : Task) (g : Stage) → Within (e .slot (k .fresh)) (k .fresh) → InReach d (takes x e t k g)
+    unfolding takes
+    reach-take found.Bad e k g h = reach-refused 2
+    reach-take (found.At b) e k g h = reach-goes (touch.Take b) t _ _ inT
+    reach-take found.None e k g h = reach-give (e .slot (k .fresh)) k h
 
-    reach-exchange : (x : Looked) (n : ℕ) (k : Task) → k .block < d .b → InReach d (exchangesOn x n t k)
-    unfolding exchangesOn touchNear
-    reach-exchange looked.Bad n k h = reach-refused 2
-    reach-exchange (looked.Word v) n k h =
-        reach-if (eqb v (k .number)) _ _ (λ _. reach-goes (touch.Exchange (k .block) (k .number)) t _ _ (lt-ltb (k .block) (d .b) h) inT) (λ _. reach-task t _ _ inT)
+    reach-exchange : (x : Looked) (n : ℕ) (k : Task) → InReach d (exchangesOn x n t k)
+    unfolding exchangesOn
+    reach-exchange looked.Bad n k = reach-refused 2
+    reach-exchange (looked.Word v) n k = reach-if (eqb v (k .number)) _ _ (λ _. reach-goes _ t _ _ inT) (λ _. reach-goes touch.Nothing t _ _ inT)
 
     reach-old : (x : Looked) (k : Task) → InReach d (readsOld x t k)
     unfolding readsOld
     reach-old looked.Bad k = reach-refused 2
-    reach-old (looked.Word v) k = reach-task t _ _ inT
+    reach-old (looked.Word v) k = reach-goes touch.Nothing t _ _ inT
 
-    reach-at : (g : Stage) (e : Sight) (k : Task) → Reaching d k → FoundBelow (freeIn e) (d .b) → InReach d (planAt g e t k)
-    unfolding planAt fillsNew appendsEntry writesNew fillsCopy puts touchNear
-    reach-at stage.Idle e k h f = reach-refused 6
-    reach-at stage.TakeNew e k h f = reach-take (freeIn e) e k stage.FillNew f (h .fresh)
-    reach-at stage.FillNew e k h f =
-        reach-if (eqb (k .hand .cell + 1) (e .sizes .n)) _ _
-        (λ _. reach-finish (e .slot (k .fresh)) (touch.Fill (k .target) (k .hand .cell) (k .value)) k (k .target) 0 (lt-ltb (k .target) (d .b) (h .target)) (h .fresh))
-        (λ _. reach-goes (touch.Fill (k .target) (k .hand .cell) (k .value)) t _ _ (lt-ltb (k .target) (d .b) (h .target)) inT)
-    reach-at (stage.Getting r) e k h f = reach-get (readIn r e k) k .0
-    reach-at stage.Exchange e k h f = reach-exchange (e .version (k .block)) (e .sizes .n) k (h .block)
-    reach-at stage.Read e k h f = reach-old (e .cell (k .block) (k .cell)) k
-    reach-at stage.Append e k h f = reach-goes (touch.Append (k .block) (k .cell) _) t _ _ (lt-ltb (k .block) (d .b) (h .block)) inT
-    reach-at stage.Write e k h f = reach-finish (e .slot (k .fresh)) (touch.Write (k .block) (k .cell) (k .value)) k (k .block) (k .number + 1) (lt-ltb (k .block) (d .b) (h .block)) (h .fresh)
-    reach-at stage.TakeCopy e k h f = reach-take (freeIn e) e k (stage.Copying reading.Guess) f (h .fresh)
-    reach-at (stage.Copying r) e k h f = reach-get (readIn r e k) k .2
-    reach-at stage.FillCopy e k h f = reach-goes (touch.Fill (k .target) (k .hand .cell) _) t _ _ (lt-ltb (k .target) (d .b) (h .target)) inT
-    reach-at stage.Put e k h f = reach-finish (e .slot (k .fresh)) (touch.Fill (k .target) (k .cell) (k .value)) k (k .target) 0 (lt-ltb (k .target) (d .b) (h .target)) (h .fresh)
-    reach-at (stage.Paging r) e k h f = reach-get (readIn r e k) k .1
+    reach-at : (g : Stage) (e : Sight) (k : Task) → Within (e .slot (k .fresh)) (k .fresh) → InReach d (planAt g e t k)
+    unfolding planAt fillsNew appendsEntry writesNew fillsCopy puts
+    reach-at stage.Idle e k h = reach-refused 6
+    reach-at stage.TakeNew e k h = reach-take (freeIn e) e k stage.FillNew h
+    reach-at stage.FillNew e k h =
+        reach-if (eqb (after (k .hand .cell)) (e .sizes .n)) _ _
+        (λ _. reach-finish (e .slot (k .fresh)) (touch.Fill (k .target) (k .hand .cell) (k .value)) k (k .target) 0 h)
+        (λ _. reach-goes (touch.Fill (k .target) (k .hand .cell) (k .value)) t _ _ inT)
+    reach-at (stage.Getting r) e k h = reach-get (readIn r e k) k .0
+    reach-at stage.Exchange e k h = reach-exchange (e .version (k .block)) (e .sizes .n) k
+    reach-at stage.Read e k h = reach-old (e .cell (k .block) (k .cell)) k
+    reach-at stage.Append e k h = reach-goes _ t _ _ inT
+    reach-at stage.Write e k h = reach-finish (e .slot (k .fresh)) (touch.Write (k .block) (k .cell) (k .value)) k (k .block) (after (k .number)) h
+    reach-at stage.TakeCopy e k h = reach-take (freeIn e) e k (stage.Copying reading.Guess) h
+    reach-at (stage.Copying r) e k h = reach-get (readIn r e k) k .2
+    reach-at stage.FillCopy e k h = reach-goes (touch.Fill (k .target) (k .hand .cell) _) t _ _ inT
+    reach-at stage.Put e k h = reach-finish (e .slot (k .fresh)) (touch.Fill (k .target) (k .cell) (k .value)) k (k .target) 0 h
+    reach-at (stage.Paging r) e k h = reach-get (readIn r e k) k .1
 
 -- ---- plans
 
 module _ (p : List ℕ) (d : Sizes) (sp : Spans d p) where
-  -- a task's row that was read
-  pub row-reaches : (t : ℕ) (k : Task) → taskIn p d t ≡ taskrow.Row k → Reaching d (counted k)
-  unfolding taskIn counted
-  row-reaches t k e =
-      let r = task-ranged d k (task-row d k (taskPart p d t) e .1) in
-      record { block = r .block; number = r .number; fresh = r .fresh; target = r .target; hand = r .hand; cells = sp .cells; handles = sp .handles }
-
-  pub row-steps : (t : ℕ) (k : Task) → taskIn p d t ≡ taskrow.Row k → k .steps < 4294967295
-  unfolding taskIn
-  row-steps t k e = let r = task-ranged d k (task-row d k (taskPart p d t) e .1) in omega (arith, r .steps)
+  slot-within : (j : ℕ) → Within d (slotSeen p d j) j
+  unfolding slotSeen slotSeenOf
+  slot-within j =
+      if-case (λ (y : SlotRow). Within d y j) (ltb j (d .h))
+      (λ o. if-case (λ (y : SlotRow). Within d y j) (ltb (getD (slotPart p j) 1 0) 3) (λ _. ltb-true j (d .h) o) (λ _. tt)) (λ o. tt)
 
   ready-below : (t : ℕ) → not (eqb (readyIn (sight p d) t) 0) ≡ false → t < d .t
   unfolding readyIn sight
@@ -210,7 +196,7 @@ module _ (p : List ℕ) (d : Sizes) (sp : Spans d p) where
       get-on : (x : Live) → t < d .t → InReach d (getOn x (sight p d) t g i)
       unfolding getOn
       get-on (live.Not n) h = reach-refused d n
-      get-on (live.On y) h = reach-if d (leb (sight p d .sizes .n) i) _ _ (λ _. reach-refused d 8) (λ _. reach-task d t _ _ h)
+      get-on (live.On y) h = reach-if d (leb (sight p d .sizes .n) i) _ _ (λ _. reach-refused d 8) (λ _. reach-goes d touch.Nothing t _ _ h)
 
       set-on : (x : Live) → t < d .t → InReach d (setOn x (sight p d) t g i v)
       unfolding setOn
@@ -220,7 +206,7 @@ module _ (p : List ℕ) (d : Sizes) (sp : Spans d p) where
       page-on : (x : Live) → t < d .t → InReach d (pageOn x (sight p d) t g i v)
       unfolding pageOn
       page-on (live.Not n) h = reach-refused d n
-      page-on (live.On y) h = reach-if d (eqb v 0 || ltb (sight p d .sizes .n) (i + v)) _ _ (λ _. reach-refused d 8) (λ _. reach-task d t _ _ h)
+      page-on (live.On y) h = reach-if d (eqb v 0 || ltb (sight p d .sizes .n) (i + v)) _ _ (λ _. reach-refused d 8) (λ _. reach-goes d touch.Nothing t _ _ h)
 
       pub get-reaches : InReach d (planGet (sight p d) t g i)
       unfolding planGet
@@ -234,20 +220,20 @@ module _ (p : List ℕ) (d : Sizes) (sp : Spans d p) where
       unfolding planPage
       page-reaches = starts _ (page-on (liveIn (sight p d) g))
 
-    row-on : (x : TaskRow) → taskIn p d t ≡ x → t < d .t → InReach d (planRow x (sight p d) t)
-    unfolding planRow
-    row-on taskrow.Bad e h = reach-refused d 2
-    row-on (taskrow.Row k) e h = reach-at d t h (k .stage) (sight p d) (counted k) (row-reaches t k e) (free-below p d)
+    row-on : (x : TaskRow) → t < d .t → InReach d (planRow x (sight p d) t)
+    unfolding planRow sight ticked
+    row-on taskrow.Bad h = reach-refused d 2
+    row-on (taskrow.Row k) h = reach-at d t h (k .stage) (sight p d) (ticked k) (slot-within (k .fresh))
 
     pub step-reaches : InReach d (planStep (sight p d) t)
     unfolding planStep sight
-    step-reaches = reach-if d (leb (d .t) t) _ _ (λ _. reach-refused d 4) (λ e. row-on (taskIn p d t) refl (leb-false (d .t) t e))
+    step-reaches = reach-if d (leb (d .t) t) _ _ (λ _. reach-refused d 4) (λ e. row-on (taskSeen p d t) (leb-false (d .t) t e))
 
   release-at : (x : Found) (y : Slot) (h : ℕ) → slotOf h < d .h → InReach d (releaseAt x y h)
-  unfolding releaseAt touchNear slotNear taskNear
+  unfolding releaseAt slotNear taskNear
   release-at found.Bad y h n = reach-refused d 2
   release-at (found.At t) y h n = reach-refused d 11
-  release-at found.None y h n = record { touch = refl; slot = lt-ltb (slotOf h) (d .h) n; task = refl }
+  release-at found.None y h n = record { slot = lt-ltb (slotOf h) (d .h) n; task = refl }
 
   live-below : (h : ℕ) (x : Live) → liveIn (sight p d) h ≡ x → InReach d (releaseOn x (sight p d) h)
   unfolding liveIn releaseOn sight

@@ -1,13 +1,13 @@
 -- The searches' loops: what is found among the first rows, one row more, and the end.
 -- Rests on acts' searches.
-use Prim.Native.Nat.{_+_, _<_, _≤_, suc, zero, ℕ}
+use Prim.Native.Nat.{_+_, _-_, _<_, _≤_, suc, zero, ℕ}
 use mathlib.Core.Bool.{Bool, false, false≢true, true, true≢false}
 use mathlib.Core.List.{List}
 use mathlib.Core.Path.{_∙_, _≡_, ap, ap₂, refl, sym}
 use native.Mathlib.Numerals.{add-one}
 use native.Mathlib.Omega.{arith}
-use lib.Dec.{eqb}
-use borrow.Author.Tests.{eqb-false, eqb-true}
+use lib.Dec.{eqb, ltb}
+use borrow.Author.Tests.{eqb-false, eqb-true, ltb-false, ltb-true}
 use Rattle.acts.specs.declared.Counted.{Counted}
 use Rattle.acts.specs.declared.Found.{Found}
 use Rattle.acts.specs.declared.SlotRow.{SlotRow}
@@ -17,7 +17,7 @@ use Rattle.acts.specs.Looks.{countOf, liveAt, livesAt, plus}
 use Rattle.acts.specs.Plans.{filler, fillerIn, fillsAt, firstOf, freeAt, freeIn, holderIn, namesAt, naming, orElse, standerIn, standing, standsAt, unheld, userIn, vacant, vacantAt, vacantIn}
 use Rattle.acts.specs.Rows.{CountBelow, isNone}
 use Rattle.pool.specs.Places.{Spans}
-use Rattle.pool.specs.Pool.{sight, slotIn, taskIn}
+use Rattle.pool.specs.Pool.{sight, slotSeen, taskSeen}
 use Rattle.rulebook.specs.Tests.{by-test}
 use Rattle.acts.specs.declared.Found.the-variants as found
 use Rattle.acts.specs.declared.Counted.the-variants as counted
@@ -25,7 +25,7 @@ use Rattle.acts.specs.declared.Counted.the-variants as counted
 -- ---- one row
 
 module _ (p : List ℕ) (d : Sizes) where
-  module _ (j : ℕ) (x : SlotRow) (r : Found) (e : x ≡ slotIn p d j) where
+  module _ (j : ℕ) (x : SlotRow) (r : Found) (e : x ≡ slotSeen p d j) where
     pub stands-row : (b : ℕ) → r ≡ standing x b j → r ≡ standsAt (sight p d) b j
     unfolding standsAt sight
     stands-row b f = f ∙ rw e
@@ -38,7 +38,7 @@ module _ (p : List ℕ) (d : Sizes) where
     unfolding livesAt sight
     lives-row f = f ∙ rw e
 
-  module _ (t : ℕ) (x : TaskRow) (r : Found) (e : x ≡ taskIn p d t) where
+  module _ (t : ℕ) (x : TaskRow) (r : Found) (e : x ≡ taskSeen p d t) where
     pub names-row : (j : ℕ) → r ≡ naming x j t → r ≡ namesAt (sight p d) j t
     unfolding namesAt sight
     names-row j f = f ∙ rw e
@@ -93,6 +93,23 @@ module _ (f : ℕ → Found) where
   pub first-end : (j m : ℕ) → firstOf f j ≡ found.None → j ≤ m → m ≤ j → found.None ≡ firstOf f m
   first-end j m so l n = let e : j ≡ m = omega arith in sym so ∙ ap (firstOf f) e
 
+-- a test of a place, as a number
+module _ (b m : ℕ) (x : Bool) (e : x ≡ ltb b m) where
+  pub there-below : x ≡ true → b < m
+  there-below f = ltb-true b m (sym e ∙ f)
+
+  pub there-next : x ≡ true → b + 1 ≤ m
+  there-next f = let l = there-below f in omega arith
+
+  pub there-less : x ≡ true → m - (b + 1) < m - b
+  there-less f = let l = there-below f in omega arith
+
+  pub there-fits : (d : Sizes) (p : List ℕ) → x ≡ true → m ≡ d .b → Spans d p → b + 1 < 4294967296
+  there-fits d p f g sp = let l = there-below f in let k = sp .blocks in omega arith
+
+  pub there-end : x ≡ false → m ≤ b
+  there-end f = ltb-false b m (sym e ∙ f)
+
 module _ (p : List ℕ) (d : Sizes) (r : Found) where
   pub stander-is : (b : ℕ) → r ≡ firstOf (standsAt (sight p d) b) (d .h) → r ≡ standerIn (sight p d) b
   unfolding standerIn sight
@@ -126,6 +143,8 @@ module _ (p : List ℕ) (d : Sizes) (r : Found) where
 pub holder-slot : (p : List ℕ) (d : Sizes) (b : ℕ) (x : Found) (y : Bool) → x ≡ standerIn (sight p d) b → y ≡ isNone x → y ≡ false → x ≡ holderIn (sight p d) b
 unfolding holderIn
 holder-slot p d b x y e f g = e ∙ sym (after-some (standerIn (sight p d) b) (fillerIn (sight p d) b) (ap isNone (sym e) ∙ sym f ∙ g))
+
+pub ruleset theres = (there-below, there-next, there-less, there-fits, there-end)
 
 pub ruleset scans = (first-start, first-on, first-stop, first-end, stander-is, vacant-is, user-is, filler-is, free-is, free-row, holder-task, holder-slot)
 

@@ -1,41 +1,38 @@
--- The stage that was read of a task's row: what the step of that stage does is what the plan of a step does.
+-- The code that was read of a task's row: what the step of its stage does is what the plan of a step does.
 -- Rests on Stepped.
-use Prim.Native.Nat.{_+_, _<_, _≤_, ℕ}
+use Prim.Native.Nat.{_<_, _≤_, ℕ}
 use mathlib.Core.List.{List}
-use mathlib.Core.Path.{_∙_, _≡_, ap, refl, subst, sym}
-use native.Mathlib.Omega.{arith}
-use lib.Dec.{eqb, leb}
+use mathlib.Core.Path.{_∙_, _≡_, ap, refl, sym}
+use lib.Dec.{eqb, leb, ltb}
+use lib.ListN.{getD}
 use borrow.Author.Tests.{le-leb, lt-leb}
 use Rattle.acts.specs.declared.Act.{Act}
 use Rattle.acts.specs.declared.Found.{Found}
 use Rattle.acts.specs.declared.Reader.{Reader}
 use Rattle.acts.specs.declared.Said.{Said}
 use Rattle.acts.specs.declared.SlotRow.{SlotRow}
-use Rattle.acts.specs.declared.StageRow.{StageRow}
-use Rattle.acts.specs.declared.TaskRow.{TaskRow}
 use Rattle.acts.specs.declared.Touch.{Touch}
 use Rattle.block.specs.declared.Looked.{Looked}
 use Rattle.rulebook.specs.declared.Reading.{Reading}
 use Rattle.rulebook.specs.declared.Sizes.{Sizes}
 use Rattle.rulebook.specs.declared.Stage.{Stage}
 use Rattle.rulebook.specs.declared.Task.{Task}
-use Rattle.acts.specs.Plans.{appendsEntry, copyGoes, exchangesOn, fillsCopy, fillsNew, finishes, freeIn, getGoes, givesUp, goes, goesOn, pageGoes, pageSettles, planAt, planRow, planStep, puts, readIn, readsOld, refused, takes, writesNew}
+use Rattle.acts.specs.Plans.{after, freeIn, goes, refused, ticked}
+use Rattle.acts.specs.StepPlans.{appendsEntry, copyGoes, exchangesOn, fillsCopy, fillsNew, finishes, getGoes, givesUp, goesOn, pageGoes, pageSettles, planAt, planRow, planStep, puts, readIn, readsOld, takes, writesNew}
 use Rattle.acts.specs.Said.{saidOf}
 use Rattle.acts.specs.Sight.{Sight}
 use Rattle.pool.specs.Places.{Spans, taskPart}
-use Rattle.pool.specs.Pool.{sight, taskIn}
-use Rattle.pool.specs.Ranges.{task-row}
-use Rattle.pool.specs.Rows.{stageSeen, taskRead}
+use Rattle.pool.specs.Pool.{sight, taskSeen}
+use Rattle.pool.specs.Codes.{isCode, stageFrom}
+use Rattle.pool.specs.Rows.{taskRead, taskSeenOf}
 use Rattle.rulebook.specs.Sizes.{if_then_else_}
 use Rattle.rulebook.specs.State.{handOf}
-use Rattle.rulebook.specs.Steps.{counted, moved}
-use Rattle.work.specs.Reach.{row-reaches, row-steps}
+use Rattle.rulebook.specs.Steps.{moved}
+use Rattle.rulebook.specs.Tests.{by-test}
 use Rattle.acts.specs.declared.Found.the-variants as found
 use Rattle.acts.specs.declared.Read.the-variants as read
 use Rattle.acts.specs.declared.Reader.the-variants as reader
 use Rattle.acts.specs.declared.SlotRow.the-variants as slotrow
-use Rattle.acts.specs.declared.StageRow.the-variants as stagerow
-use Rattle.acts.specs.declared.TaskRow.the-variants as taskrow
 use Rattle.acts.specs.declared.Touch.the-variants as touch
 use Rattle.rulebook.specs.declared.Progress.the-variants as progress
 use Rattle.rulebook.specs.declared.Reading.the-variants as reading
@@ -105,80 +102,50 @@ module _ (e : Sight) (t : ℕ) (k : Task) (h : Stage) where
   plan-any stage.Idle = refl
   plan-any stage.TakeNew = any-takes (freeIn e) stage.FillNew
   plan-any stage.FillNew =
-      ap (λ (a : Act). if eqb (k .hand .cell + 1) (e .sizes .n) then a else goes (touch.Fill (k .target) (k .hand .cell) (k .value)) t (moved k stage.FillNew (handOf (k .hand .cell + 1))) reply.Quiet)
+      ap (λ (a : Act). if eqb (after (k .hand .cell)) (e .sizes .n) then a else goes (touch.Fill (k .target) (k .hand .cell) (k .value)) t (moved k stage.FillNew (handOf (after (k .hand .cell)))) reply.Quiet)
       (any-finishes (e .slot (k .fresh)) (touch.Fill (k .target) (k .hand .cell) (k .value)) (k .target) 0)
   plan-any (stage.Getting r) = unfold goesOn in any-reading reader.Get r
   plan-any stage.Exchange = any-exchanges (e .version (k .block)) (e .sizes .n)
   plan-any stage.Read = any-old (e .cell (k .block) (k .cell))
   plan-any stage.Append = refl
-  plan-any stage.Write = any-finishes (e .slot (k .fresh)) (touch.Write (k .block) (k .cell) (k .value)) (k .block) (k .number + 1)
+  plan-any stage.Write = any-finishes (e .slot (k .fresh)) (touch.Write (k .block) (k .cell) (k .value)) (k .block) (after (k .number))
   plan-any stage.TakeCopy = any-takes (freeIn e) (stage.Copying reading.Guess)
   plan-any (stage.Copying r) = unfold goesOn in any-reading reader.Copy r
   plan-any stage.FillCopy = refl
   plan-any stage.Put = any-finishes (e .slot (k .fresh)) (touch.Fill (k .target) (k .cell) (k .value)) (k .target) 0
   plan-any (stage.Paging r) = unfold goesOn in any-reading reader.Page r
 
--- ---- the stage that was read
+-- ---- the code that was read
 
-module _ (p : List ℕ) (d : Sizes) (t : ℕ) (x : StageRow) (e : x ≡ stageSeen (taskIn p d t)) where
-  -- a row whose stage was read
-  seen : (g : Stage) → x ≡ stagerow.At g → (k : Task) × (taskIn p d t ≡ taskrow.Row k) × (k .stage ≡ g) × (k ≡ taskRead (taskPart p d t))
-  seen g f = at (taskIn p d t) refl
-    where
-      at : (y : TaskRow) → taskIn p d t ≡ y → (k : Task) × (taskIn p d t ≡ taskrow.Row k) × (k .stage ≡ g) × (k ≡ taskRead (taskPart p d t))
-      at taskrow.Bad h = let q : stagerow.Bad ≡ stagerow.At g = ap stageSeen (sym h) ∙ sym e ∙ f in let z : _≡_ {A = ℕ} 0 1 = cc in absurd (omega arith)
-      at (taskrow.Row k) h =
-          let q : stagerow.At (k .stage) ≡ stagerow.At g = ap stageSeen (sym h) ∙ sym e ∙ f in
-          (k, h, cc, sym (task-row d k (taskPart p d t) (unfold taskIn in h) .0))
+-- who reads, at a stage that reads; where a task goes on that has taken its block
+unfoldable pub readerOf : ℕ → Reader
+readerOf c = if ltb c 31 then reader.Get else if ltb c 43 then reader.Copy else reader.Page
 
-  -- it is the task that goes up, at its stage
-  up-as : (k : Task) → k ≡ taskRead (taskPart p d t) → (g : Stage) → planAt g (sight p d) t (counted k) ≡ planAt g (sight p d) t (taskUp p d t)
-  unfolding taskRead taskUp counted
-  up-as k h g = ap (λ (z : Task). planAt g (sight p d) t (counted z)) h ∙ plan-any (sight p d) t (counted (taskRead (taskPart p d t))) stage.Idle g
+unfoldable pub takerOf : ℕ → Stage
+takerOf c = if eqb c 13 then stage.FillNew else stage.Copying reading.Guess
 
-  pub seen-held : (g : Stage) → Spans d p → t < d .t → x ≡ stagerow.At g → Held d p t
-  unfolding taskUp counted taskRead
-  seen-held g sp l f =
-      let y = seen g f in
-      let k = y .0 in
-      let r = row-reaches p d sp t k (y .1) in
-      let q = row-steps p d sp t k (y .1) in
-      let same = y .3 in
-      record {
-        spans = sp;
-        below = l;
-        steps = omega (arith, q, ap (λ (z : Task). z .steps) same);
-        reach = record {
-          block = subst (λ (z : Task). z .block < d .b) same (r .block);
-          number = subst (λ (z : Task). z .number ≤ d .n) same (r .number);
-          fresh = subst (λ (z : Task). z .fresh < d .h) same (r .fresh);
-          target = subst (λ (z : Task). z .target < d .b) same (r .target);
-          hand = subst (λ (z : Task). z .hand .cell < d .n) same (r .hand);
-          cells = r .cells;
-          handles = r .handles;
-        };
-      }
+-- a step at the stage whose code is c
+unfoldable pub stepCoded : List ℕ → Sizes → ℕ → ℕ → List ℕ × Said
+stepCoded p d t c = if isCode c then stepAt p d t (stageFrom c) else (p, saidOf (reply.Refused 2))
 
-  module _ (l : t < d .t) (q : List ℕ) (s : Said) where
-    pub seen-bad : x ≡ stagerow.Bad → s ≡ saidOf (reply.Refused 2) → (p, s) ≡ does p d t (planStep (sight p d) t)
-    unfolding planStep sight
-    seen-bad f g = ap (λ (z : Said). (p, z)) g ∙ does-refused p d t 2 ∙ ap (does p d t) (rw (lt-leb (d .t) t l) (at (taskIn p d t) refl))
-      where
-        at : (y : TaskRow) → taskIn p d t ≡ y → refused 2 ≡ planRow y (sight p d) t
-        at taskrow.Bad h = unfold planRow in refl
-        at (taskrow.Row k) h = let q : stagerow.At (k .stage) ≡ stagerow.Bad = ap stageSeen (sym h) ∙ sym e ∙ f in let z : _≡_ {A = ℕ} 0 1 = cc in absurd (omega arith)
+module _ (p : List ℕ) (d : Sizes) (t : ℕ) where
+  -- the task of the row goes up, at its stage
+  up-as : (g : Stage) → planAt g (sight p d) t (ticked (taskRead (taskPart p d t))) ≡ planAt g (sight p d) t (taskUp p d t)
+  unfolding taskRead taskUp ticked
+  up-as g = plan-any (sight p d) t (ticked (taskRead (taskPart p d t))) stage.Idle g
 
-    pub seen-is : (g : Stage) → x ≡ stagerow.At g → (q, s) ≡ stepAt p d t g → (q, s) ≡ does p d t (planStep (sight p d) t)
-    unfolding planStep planRow stepAt
-    seen-is g f h =
-        let y = seen g f in
-        h ∙ ap (does p d t) (sym (up-as (y .0) (y .3) g) ∙ ap (λ (z : Stage). planAt z (sight p d) t (counted (y .0))) (sym (y .2)) ∙ there (y .0) (y .1))
-      where
-        there : (k : Task) → taskIn p d t ≡ taskrow.Row k → planAt (k .stage) (sight p d) t (counted k) ≡ (if leb (sight p d .sizes .t) t then refused 4 else planRow (sight p d .task t) (sight p d) t)
-        there k i = unfold sight in rw (lt-leb (d .t) t l, i)
+  pub seen-held : Spans d p → t < d .t → Held d p t
+  seen-held sp l = record { spans = sp; below = l }
 
-pub seen-none : (p : List ℕ) (d : Sizes) (t : ℕ) (s : Said) → d .t ≤ t → s ≡ saidOf (reply.Refused 4) → (p, s) ≡ does p d t (planStep (sight p d) t)
-unfolding planStep sight
-seen-none p d t s l g = ap (λ (z : Said). (p, z)) g ∙ does-refused p d t 4 ∙ ap (does p d t) (rw (le-leb (d .t) t l))
+  pub seen-is : (c : ℕ) (q : List ℕ) (s : Said) → t < d .t → c ≡ getD (taskPart p d t) 0 0 → (q, s) ≡ stepCoded p d t c → (q, s) ≡ does p d t (planStep (sight p d) t)
+  unfolding stepCoded planStep planRow sight taskSeen taskSeenOf stepAt
+  seen-is c q s l e f =
+      f ∙ rw (e, lt-leb (d .t) t l) (by-test (isCode (getD (taskPart p d t) 0 0))
+      (λ o. rw o (ap (does p d t) (sym (up-as (stageFrom (getD (taskPart p d t) 0 0))) ∙ (unfold taskRead in refl))))
+      (λ o. rw o (does-refused p d t 2)))
 
-pub ruleset steps = (seen-held, seen-bad, seen-is, seen-none)
+  pub seen-none : (s : Said) → d .t ≤ t → s ≡ saidOf (reply.Refused 4) → (p, s) ≡ does p d t (planStep (sight p d) t)
+  unfolding planStep sight
+  seen-none s l g = ap (λ (z : Said). (p, z)) g ∙ does-refused p d t 4 ∙ ap (does p d t) (rw (le-leb (d .t) t l))
+
+pub ruleset steps = (seen-held, seen-is, seen-none)

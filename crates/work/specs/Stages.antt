@@ -1,12 +1,9 @@
 -- For each function of readings and tasks, one law for each way out.
 -- Rests on Stepped.
-use Prim.Native.Nat.{_+_, _<_, _≤_, ℕ}
-use mathlib.Core.Bool.{Bool, true}
+use Prim.Native.Nat.{_<_, _≤_, ℕ}
 use mathlib.Core.List.{List}
-use mathlib.Core.Path.{_∙_, _≡_, ap, refl, subst, sym}
-use native.Mathlib.Omega.{arith}
+use mathlib.Core.Path.{_∙_, _≡_, ap, refl, sym}
 use lib.Dec.{eqb, leb}
-use lib.ListN.{getD}
 use borrow.Author.Tests.{eq-eqb, le-leb, lt-leb, ne-eqb}
 use Rattle.acts.specs.declared.Reader.{Reader}
 use Rattle.acts.specs.declared.Said.{Said}
@@ -18,17 +15,17 @@ use Rattle.rulebook.specs.declared.Reading.{Reading}
 use Rattle.rulebook.specs.declared.Sizes.{Sizes}
 use Rattle.rulebook.specs.declared.Stage.{Stage}
 use Rattle.rulebook.specs.declared.Task.{Task}
-use Rattle.acts.specs.Plans.{copyGoes, getGoes, goes, goesOn, pageGoes, pageSettles, planAt, readEntry, readGuess, readIn, readLength, readVersion, refused, stageFor}
-use Rattle.acts.specs.Said.{saidOf, toldIn}
-use Rattle.block.specs.Words.{cellIn, entryIn, lengthIn, versionIn}
-use Rattle.pool.specs.Places.{blockPart, taskPart}
-use Rattle.pool.specs.Pool.{putTask, sight}
+use Rattle.acts.specs.Plans.{after, goes, refused, ticked}
+use Rattle.acts.specs.StepPlans.{copyGoes, getGoes, goesOn, pageGoes, pageSettles, planAt, readEntry, readGuess, readIn, readLength, readVersion, stageFor}
+use Rattle.acts.specs.Said.{saidOf}
+use Rattle.pool.specs.Places.{taskPart}
+use Rattle.pool.specs.Pool.{cellSeen, entrySeen, lengthSeen, putTask, sight, versionSeen}
 use Rattle.pool.specs.Rows.{taskWith}
 use Rattle.rulebook.specs.Sizes.{if_then_else_}
 use Rattle.rulebook.specs.State.{handOf, idle}
-use Rattle.rulebook.specs.Steps.{answer, counted, guessed, middle, moved, probedAt, searching}
+use Rattle.rulebook.specs.Steps.{answer, guessed, middle, moved, probedAt, searching}
 use Rattle.rulebook.specs.Tests.{by-test, if-case}
-use Rattle.work.specs.Stepped.{Held, boundedAt, does, does-goes, does-refused, gotAt, pagedAt, settledAt, stepAt, taskUp, turnedTo}
+use Rattle.work.specs.Stepped.{boundedAt, does, does-goes, does-refused, gotAt, pagedAt, settledAt, stepAt, taskUp, turnedTo}
 use Rattle.acts.specs.declared.Read.the-variants as read
 use Rattle.acts.specs.declared.Reader.the-variants as reader
 use Rattle.acts.specs.declared.Touch.the-variants as touch
@@ -43,22 +40,13 @@ use Rattle.acts.specs.declared.Read as reads
 module _ (p : List ℕ) (d : Sizes) (t : ℕ) where
   -- ---- the row of the task
 
-  pub up-steps : (k : Task) → Held d p t → k ≡ taskWith stage.Idle (taskPart p d t) → k .steps < 4294967295
-  up-steps k h e = subst (λ (z : Task). z .steps < 4294967295) (sym e) (h .steps)
-
-  pub up-is : (k z : Task) → k ≡ taskWith stage.Idle (taskPart p d t) → z ≡ counted k → z ≡ taskUp p d t
+  pub up-is : (k z : Task) → k ≡ taskWith stage.Idle (taskPart p d t) → z ≡ ticked k → z ≡ taskUp p d t
   unfolding taskUp
-  up-is k z e f = f ∙ ap counted e
+  up-is k z e f = f ∙ ap ticked e
 
   module _ (k : Task) (e : k ≡ taskUp p d t) where
-    pub up-block : Held d p t → k .block < d .b
-    up-block h = subst (λ (z : Task). z .block < d .b) (sym e) (h .reach .block)
-
     pub up-cell : k .hand .cell ≡ taskUp p d t .hand .cell
     up-cell = ap (λ (z : Task). z .hand .cell) e
-
-    pub up-next : Held d p t → k .hand .cell + 1 < 4294967296
-    up-next h = let a = h .reach .hand in let b = h .reach .cells in omega (arith, up-cell)
 
     pub turn-is : (z : Task) (g : Stage) (w : Hand) (q : List ℕ) (r : Said) → z ≡ moved k g w → q ≡ putTask p d t z → r ≡ saidOf reply.Quiet → (q, r) ≡ turnedTo p d t g w
     unfolding turnedTo
@@ -71,16 +59,16 @@ module _ (p : List ℕ) (d : Sizes) (t : ℕ) where
       unfolding gotAt
       got-is g = rw (f, g, e)
 
-      pub page-ends : k .hand .cell + 1 ≡ k .until → r ≡ saidOf (reply.HandedLast (k .steps) (k .hand .cell) v) → (q, r) ≡ pagedAt p d t v
+      pub page-ends : (n : ℕ) → n ≡ after (k .hand .cell) → n ≡ k .until → r ≡ saidOf (reply.HandedLast (k .steps) (k .hand .cell) v) → (q, r) ≡ pagedAt p d t v
       unfolding pagedAt
-      page-ends l g = rw (f, g, ← e, eq-eqb (k .hand .cell + 1) (k .until) l)
+      page-ends n m l g = rw (f, g, ← e, ← m, eq-eqb n (k .until) l)
 
-    pub page-goes : (v : ℕ) (w : Hand) (q : List ℕ) (r s : Said) → (k .hand .cell + 1 ≡ k .until → ⊥) → w ≡ handOf (k .hand .cell + 1)
+    pub page-goes : (v : ℕ) (w : Hand) (q : List ℕ) (r s : Said) (n : ℕ) → n ≡ after (k .hand .cell) → (n ≡ k .until → ⊥) → w ≡ handOf n
         → (q, r) ≡ turnedTo p d t (stage.Paging reading.Guess) w → s ≡ saidOf (reply.Handed (k .hand .cell) v) → (q, s) ≡ pagedAt p d t v
     unfolding pagedAt turnedTo
-    page-goes v w q r s l f g h =
+    page-goes v w q r s n m l f g h =
         let y : q ≡ putTask p d t (moved (taskUp p d t) (stage.Paging reading.Guess) w) = ap (λ (z : List ℕ × Said). z .0) g in
-        rw (y, h, f, ← e, ne-eqb (k .hand .cell + 1) (k .until) l)
+        rw (y, h, f, ← e, ← m, ne-eqb n (k .until) l)
 
   pub rest-is : (z : Task) (q : List ℕ) → z ≡ idle → q ≡ putTask p d t z → q ≡ putTask p d t idle
   rest-is z q e f = rw (f, e)
@@ -97,13 +85,13 @@ module _ (p : List ℕ) (d : Sizes) (t : ℕ) where
     -- a page's cell c of value v is settled
     abbrev paged : ℕ → ℕ → List ℕ × Said
     paged c v =
-        if eqb (c + 1) (taskUp p d t .until)
+        if eqb (after c) (taskUp p d t .until)
         then (putTask p d t idle, saidOf (reply.HandedLast (taskUp p d t .steps) c v))
-        else (putTask p d t (moved (taskUp p d t) (stage.Paging reading.Guess) (handOf (c + 1))), saidOf (reply.Handed c v))
+        else (putTask p d t (moved (taskUp p d t) (stage.Paging reading.Guess) (handOf (after c))), saidOf (reply.Handed c v))
 
     page-settled : paged (w .cell) (answer w) ≡ does p d t (pageSettles w t (taskUp p d t))
     unfolding pageSettles
-    page-settled = by-test (eqb (w .cell + 1) (taskUp p d t .until)) (λ b. rw b (does-goes p d t _ _)) (λ b. rw b (does-goes p d t _ _))
+    page-settled = by-test (eqb (after (w .cell)) (taskUp p d t .until)) (λ b. rw b (does-goes p d t _ _)) (λ b. rw b (does-goes p d t _ _))
 
     pub settle-page : (v : ℕ) → o ≡ reader.Page → w .cell ≡ taskUp p d t .hand .cell → v ≡ answer w → (q, r) ≡ pagedAt p d t v → (q, r) ≡ settledAt p d t o w
     unfolding settledAt goesOn pageGoes pagedAt
@@ -148,7 +136,7 @@ module _ (p : List ℕ) (d : Sizes) (t : ℕ) where
 
   module _ (o : Reader) (k : Task) (e : k ≡ taskUp p d t) (q : List ℕ) (s : Said) where
     -- the guess
-    module _ (x : Looked) (f : x ≡ cellIn (d .n) (blockPart p d (k .block)) (k .hand .cell)) where
+    module _ (x : Looked) (f : x ≡ cellSeen p d (k .block) (k .hand .cell)) where
       guess-in : readIn reading.Guess (sight p d) (taskUp p d t) ≡ readGuess x (k .hand)
       unfolding readIn sight
       guess-in = rw (← e, f)
@@ -163,7 +151,7 @@ module _ (p : List ℕ) (d : Sizes) (t : ℕ) where
       guess-on v w n g h i j = j ∙ rw i (reads-on o reading.Guess reading.Version w (guess-in ∙ rw (g, h)))
 
     -- V
-    module _ (x : Looked) (f : x ≡ versionIn (d .n) (blockPart p d (k .block))) where
+    module _ (x : Looked) (f : x ≡ versionSeen p d (k .block)) where
       version-in : readIn reading.Version (sight p d) (taskUp p d t) ≡ readVersion x (k .number) (k .hand)
       unfolding readIn sight
       version-in = rw (← e, f)
@@ -182,7 +170,7 @@ module _ (p : List ℕ) (d : Sizes) (t : ℕ) where
         version-on n h i j = j ∙ rw i (reads-on o reading.Version reading.Length (k .hand) (version-in ∙ rw (g, ne-eqb v (k .number) h)))
 
     -- the log's length
-    module _ (x : Looked) (f : x ≡ lengthIn (d .n) (blockPart p d (k .block)) (k .hand .cell)) where
+    module _ (x : Looked) (f : x ≡ lengthSeen p d (k .block) (k .hand .cell)) where
       length-in : readIn reading.Length (sight p d) (taskUp p d t) ≡ readLength x (k .hand)
       unfolding readIn sight
       length-in = rw (← e, f)
@@ -205,7 +193,7 @@ module _ (p : List ℕ) (d : Sizes) (t : ℕ) where
     unfolding readIn
     probe-over l h = reads-bad o reading.Probe s (rw (← e, le-leb (k .hand .hi) (k .hand .lo) l)) h
 
-    module _ (l : k .hand .lo < k .hand .hi) (m : ℕ) (c : m ≡ middle (k .hand)) (x : Probed) (f : x ≡ entryIn (d .n) (blockPart p d (k .block)) (k .hand .cell) m) where
+    module _ (l : k .hand .lo < k .hand .hi) (m : ℕ) (c : m ≡ middle (k .hand)) (x : Probed) (f : x ≡ entrySeen p d (k .block) (k .hand .cell) m) where
       probe-in : readIn reading.Probe (sight p d) (taskUp p d t) ≡ readEntry x (k .number) (k .hand)
       unfolding readIn sight
       probe-in = rw (← e, lt-leb (k .hand .hi) (k .hand .lo) l, ← c, f)
@@ -231,28 +219,14 @@ module _ (p : List ℕ) (d : Sizes) (t : ℕ) where
   probe-cell k y w e h =
       ap (λ (z : Hand). z .cell) h ∙ if-case (λ (z : Hand). z .cell ≡ k .hand .cell) (leb (k .number) (y .version)) (λ _. refl) (λ _. refl) ∙ ap (λ (z : Task). z .hand .cell) e
 
-  -- ---- whoever reads
+pub ruleset rows = (up-is, turn-is, rest-is)
 
-  module _ (r n : Reading) (e : r ≡ n) (q : List ℕ) (s : Said) where
-    pub get-reads : (q, s) ≡ stepAt p d t (stageFor reader.Get n) → (q, s) ≡ stepAt p d t (stage.Getting r)
-    get-reads f = f ∙ rw e
+pub ruleset settling = (got-is, page-ends, page-goes, settle-get, settle-copy, settle-page)
 
-    pub copy-reads : (q, s) ≡ stepAt p d t (stageFor reader.Copy n) → (q, s) ≡ stepAt p d t (stage.Copying r)
-    copy-reads f = f ∙ rw e
+pub ruleset guesses = (guess-bad, guess-on)
 
-    pub page-reads : (q, s) ≡ stepAt p d t (stageFor reader.Page n) → (q, s) ≡ stepAt p d t (stage.Paging r)
-    page-reads f = f ∙ rw e
+pub ruleset versions = (up-cell, version-bad, version-settles, version-on)
 
-pub ruleset rows = (up-steps, up-is, turn-is, rest-is)
+pub ruleset lengths = (up-cell, length-bad, length-settles, length-on)
 
-pub ruleset settling = (up-next, got-is, page-ends, page-goes, settle-get, settle-copy, settle-page)
-
-pub ruleset guesses = (up-block, guess-bad, guess-on)
-
-pub ruleset versions = (up-block, up-cell, version-bad, version-settles, version-on)
-
-pub ruleset lengths = (up-block, up-cell, length-bad, length-settles, length-on)
-
-pub ruleset probes = (up-block, probe-over, probe-bad, probe-on, probe-cell, bounds-meet, bounds-on)
-
-pub ruleset readers = (get-reads, copy-reads, page-reads)
+pub ruleset probes = (probe-over, probe-bad, probe-on, probe-cell, bounds-meet, bounds-on)

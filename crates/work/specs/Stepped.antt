@@ -1,11 +1,10 @@
 -- What a step leaves and says, stage by stage, on the row of its task and one block; and what doing an act leaves and says.
 -- Rests on acts' plans and on what doing an act leaves of the words.
 use Prim.Native.Nat.{_+_, _<_, _≤_, ℕ}
-use mathlib.Core.Bool.{Bool, false, true}
+use mathlib.Core.Bool.{Bool, false, not, true}
 use mathlib.Core.List.{List}
 use mathlib.Core.Path.{_∙_, _≡_, ap, refl, subst, sym}
 use lib.Dec.{eqb, leb}
-use lib.ListN.{getD}
 use Rattle.acts.specs.declared.Act.{Act}
 use Rattle.acts.specs.declared.Reader.{Reader}
 use Rattle.acts.specs.declared.Said.{Said}
@@ -17,18 +16,18 @@ use Rattle.rulebook.specs.declared.Sizes.{Sizes}
 use Rattle.rulebook.specs.declared.Slot.{Slot}
 use Rattle.rulebook.specs.declared.Stage.{Stage}
 use Rattle.rulebook.specs.declared.Task.{Task}
-use Rattle.acts.specs.Plans.{afterBounds, afterExchange, afterFill, ends, finishes, freeIn, givesUp, goes, goesOn, planAt, refused, takes}
+use Rattle.acts.specs.Plans.{after, ends, freeIn, goes, refused, ticked}
+use Rattle.acts.specs.StepPlans.{afterBounds, afterExchange, afterFill, finishes, givesUp, goesOn, planAt, takes}
 use Rattle.acts.specs.Said.{saidOf, toldIn}
 use Rattle.pool.specs.Acts.{applied-answers, applied-done, applied-not, touched-keeps}
 use Rattle.pool.specs.Does.{untouched}
 use Rattle.pool.specs.Keeps.{keeps-spans, none}
 use Rattle.pool.specs.Places.{Spans, taskPart}
-use Rattle.pool.specs.Pool.{actedIn, appliedIn, putSlot, putTask, seatedIn, sight, slotIn, touchNear, touchedIn, turnedIn}
+use Rattle.pool.specs.Pool.{actedIn, appliedIn, putSlot, putTask, seatedIn, sight, slotSeen, touchNear, touchedIn, touchedNear, turnedIn}
 use Rattle.pool.specs.Rows.{taskWith}
 use Rattle.rulebook.specs.Sizes.{if_then_else_, lastSerial, publicNumber}
 use Rattle.rulebook.specs.State.{handOf, idle}
-use Rattle.rulebook.specs.Steps.{aimed, counted, moved}
-use Rattle.work.specs.Asked.{Reaching}
+use Rattle.rulebook.specs.Steps.{aimed, moved}
 use Rattle.acts.specs.declared.Read.the-variants as read
 use Rattle.acts.specs.declared.SlotRow.the-variants as slotrow
 use Rattle.acts.specs.declared.Touch.the-variants as touch
@@ -43,10 +42,21 @@ unfoldable pub nextSerial : SlotRow → ℕ
 nextSerial slotrow.Bad = 0
 nextSerial (slotrow.Row x) = if leb lastSerial (x .serial) then 0 else x .serial + 1
 
+-- a block being filled, by a new or by the last write of a copy: its stage, whether a cell follows the one in hand, and else the last cell
+unfoldable pub filling : Bool → Stage
+filling true = stage.Put
+filling false = stage.FillNew
+
+unfoldable pub moreCells : Bool → Task → ℕ → Bool
+moreCells put k n = if put then false else not (eqb (after (k .hand .cell)) n)
+
+unfoldable pub lastCell : Bool → Task → ℕ
+lastCell put k = if put then k .cell else k .hand .cell
+
 module _ (p : List ℕ) (d : Sizes) (t : ℕ) where
   -- task t with this step counted; its stage is told apart
   unfoldable pub taskUp : Task
-  taskUp = counted (taskWith stage.Idle (taskPart p d t))
+  taskUp = ticked (taskWith stage.Idle (taskPart p d t))
 
   -- what an act leaves and says
   abbrev pub does : Act → List ℕ × Said
@@ -66,9 +76,9 @@ module _ (p : List ℕ) (d : Sizes) (t : ℕ) where
 
   unfoldable pub pagedAt : ℕ → List ℕ × Said
   pagedAt v =
-      if eqb (taskUp .hand .cell + 1) (taskUp .until)
+      if eqb (after (taskUp .hand .cell)) (taskUp .until)
       then (putTask p d t idle, saidOf (reply.HandedLast (taskUp .steps) (taskUp .hand .cell) v))
-      else (putTask p d t (moved taskUp (stage.Paging reading.Guess) (handOf (taskUp .hand .cell + 1))), saidOf (reply.Handed (taskUp .hand .cell) v))
+      else (putTask p d t (moved taskUp (stage.Paging reading.Guess) (handOf (after (taskUp .hand .cell)))), saidOf (reply.Handed (taskUp .hand .cell) v))
 
   -- a search that has come to the hand w is over, or goes on
   unfoldable pub boundedAt : Reader → Hand → List ℕ × Said
@@ -96,7 +106,7 @@ module _ (p : List ℕ) (d : Sizes) (t : ℕ) where
   aimedAt g b = (putTask p d t (aimed (moved taskUp g (handOf 0)) b), saidOf reply.Quiet)
 
   unfoldable pub givenUp : List ℕ × Said
-  givenUp = does (givesUp (slotIn p d (taskUp .fresh)) t taskUp)
+  givenUp = does (givesUp (slotSeen p d (taskUp .fresh)) t taskUp)
 
   unfoldable pub takenAt : Stage → List ℕ × Said
   takenAt g = does (takes (freeIn (sight p d)) (sight p d) t taskUp g)
@@ -107,34 +117,38 @@ module _ (p : List ℕ) (d : Sizes) (t : ℕ) where
       does (ends x (taskUp .fresh) (record { serial = s; status = status.Live; block = b; number = l }) t idle (reply.Made (taskUp .steps) (publicNumber (taskUp .fresh) s)))
 
   unfoldable pub writeMade : ℕ → List ℕ × Said
-  writeMade s = madeOn (touch.Write (taskUp .block) (taskUp .cell) (taskUp .value)) s (taskUp .block) (taskUp .number + 1)
+  writeMade s = madeOn (touch.Write (taskUp .block) (taskUp .cell) (taskUp .value)) s (taskUp .block) (after (taskUp .number))
 
   unfoldable pub fillMade : ℕ → ℕ → List ℕ × Said
   fillMade s i = madeOn (touch.Fill (taskUp .target) i (taskUp .value)) s (taskUp .target) 0
 
   -- the last write to a block being filled, at cell i
   unfoldable pub filledLast : ℕ → List ℕ × Said
-  filledLast i = does (finishes (slotIn p d (taskUp .fresh)) (touch.Fill (taskUp .target) i (taskUp .value)) t taskUp (taskUp .target) 0)
+  filledLast i = does (finishes (slotSeen p d (taskUp .fresh)) (touch.Fill (taskUp .target) i (taskUp .value)) t taskUp (taskUp .target) 0)
 
   -- a new's cell, and the next comes
   unfoldable pub filledNext : List ℕ × Said
   filledNext =
-      does (goes (touch.Fill (taskUp .target) (taskUp .hand .cell) (taskUp .value)) t (moved taskUp stage.FillNew (handOf (taskUp .hand .cell + 1))) reply.Quiet)
+      does (goes (touch.Fill (taskUp .target) (taskUp .hand .cell) (taskUp .value)) t (moved taskUp stage.FillNew (handOf (after (taskUp .hand .cell)))) reply.Quiet)
 
   -- a first set's exchange
   unfoldable pub firstSet : List ℕ × Said
   firstSet = does (goes (touch.Exchange (taskUp .block) (taskUp .number)) t (afterExchange (d .n) taskUp) reply.Quiet)
 
--- the row of task t was read, and is in its ranges
+-- the pool has a task t
 pub record Held (d : Sizes) (p : List ℕ) (t : ℕ) : Type 0 where
   pub spans : Spans d p
   pub below : t < d .t
-  pub steps : getD (taskPart p d t) 16 0 < 4294967295
-  pub reach : Reaching d (taskUp p d t)
 
--- and the handle that it makes gets the serial s
+-- and a slot j
+pub record Seat (d : Sizes) (p : List ℕ) (t j : ℕ) : Type 0 where
+  pub held : Held d p t
+  pub slot : j < d .h
+
+-- the slot that it has reserved is there, and the handle that it makes gets the serial s
 pub record Fresh (d : Sizes) (p : List ℕ) (t s : ℕ) : Type 0 where
   pub held : Held d p t
+  pub slot : taskUp p d t .fresh < d .h
   pub most : s ≤ 16777215
 
 -- ---- doing an act
@@ -145,11 +159,11 @@ module _ (p : List ℕ) (d : Sizes) (t : ℕ) where
   does-refused n = rw (applied-answers p d (reply.Refused n))
 
   pub does-goes : (z : Task) (r : Reply) → (putTask p d t z, saidOf r) ≡ does p d t (goes touch.Nothing t z r)
-  unfolding toldIn appliedIn actedIn touchedIn seatedIn turnedIn
+  unfolding toldIn appliedIn actedIn touchedIn touchedNear touchNear seatedIn turnedIn
   does-goes z r = refl
 
   pub does-seats : (j : ℕ) (y : Slot) (z : Task) (r : Reply) → (putTask (putSlot p j y) d t z, saidOf r) ≡ does p d t (ends touch.Nothing j y t z r)
-  unfolding toldIn appliedIn actedIn touchedIn seatedIn turnedIn
+  unfolding toldIn appliedIn actedIn touchedIn touchedNear touchNear seatedIn turnedIn
   does-seats j y z r = refl
 
   module _ (x : Touch) (q : List ℕ) where
@@ -171,21 +185,19 @@ module _ (p : List ℕ) (d : Sizes) (t : ℕ) where
 
   -- ---- a touch leaves the rows
 
-  module _ (h : Held d p t) (x : Touch) (q : List ℕ) (r : Bool) (e : (q, r) ≡ touchedIn p d x) (n : touchNear d x ≡ true) where
+  module _ (h : Held d p t) (x : Touch) (q : List ℕ) (r : Bool) (e : (q, r) ≡ touchedIn p d x) where
     left : q ≡ touchedIn p d x .0
     left = ap (λ (y : List ℕ × Bool). y .0) e
 
     part-left : taskPart q d t ≡ taskPart p d t
-    part-left = ap (λ (y : List ℕ). taskPart y d t) left ∙ touched-keeps (h .spans) x n .tasks t (h .below) refl
+    part-left = ap (λ (y : List ℕ). taskPart y d t) left ∙ touched-keeps (h .spans) x .tasks t (h .below) refl
 
     pub up-left : taskUp q d t ≡ taskUp p d t
     unfolding taskUp
-    up-left = ap (λ (w : List ℕ). counted (taskWith stage.Idle w)) part-left
+    up-left = ap (λ (w : List ℕ). ticked (taskWith stage.Idle w)) part-left
 
     pub held-left : Held d q t
     held-left = record {
-      spans = subst (Spans d) (sym left) (keeps-spans (touched-keeps (h .spans) x n) (h .spans));
+      spans = subst (Spans d) (sym left) (keeps-spans (touched-keeps (h .spans) x) (h .spans));
       below = h .below;
-      steps = subst (λ (w : List ℕ). getD w 16 0 < 4294967295) (sym part-left) (h .steps);
-      reach = subst (Reaching d) (sym up-left) (h .reach);
     }

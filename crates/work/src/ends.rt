@@ -1,5 +1,5 @@
 // How a new or a set ends: its slot carries the handle.
-use super::tasks::rest;
+use super::tasks::leave;
 use super::tasks::task_in;
 use acts::Said;
 use acts::SlotRow;
@@ -8,17 +8,16 @@ use rulebook::Sizes;
 use rulebook::Slot;
 use rulebook::Status;
 ghost use mathlib.Core.Path.{_≡_};
-ghost use Prim.Native.Nat.{_<_};
 ghost use Rattle.pool.specs.Places.{Spans};
-ghost use Rattle.pool.specs.Pool.{slotIn};
+ghost use Rattle.pool.specs.Pool.{slotSeen};
 ghost use Rattle.work.specs.Stepped.{Fresh, madeAt, nextSerial};
 
-// The serial that a reserved slot gets; 0 where its row is bad or it is spent.
+// The serial that a reserved slot gets; 0 where it is not there, its row is bad or it is spent.
 pub fn next_serial(words: &[u32], d: Sizes, j: u32) -> u32
-    requires { ⌜ Spans d (now words) × (j < d .h) ⌝ }
-    ensures { λ r. ⌜ r ≡ nextSerial (slotIn (now (words .entry)) d j) ⌝ }
+    requires { ⌜ Spans d (now words) ⌝ }
+    ensures { λ r. ⌜ r ≡ nextSerial (slotSeen (now (words .entry)) d j) ⌝ }
 {
-    let SlotRow::Row(x) = pool::load_slot(words, d, j) else {
+    let SlotRow::Row(x) = pool::see_slot(words, d, j) else {
         return 0;
     };
     if 16777215 <= x.serial {
@@ -39,7 +38,6 @@ pub fn makes(words: &mut [u32], d: Sizes, t: u32, serial: u32, b: u32, l: u32) -
         block: b,
         number: l,
     };
-    pool::store_slot(words, d, k.fresh, live);
-    rest(words, d, t);
+    leave(words, d, t, k.fresh, live);
     made(k.steps, k.fresh + 256 * serial)
 }

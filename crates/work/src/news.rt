@@ -2,12 +2,13 @@
 use super::ends::makes;
 use super::ends::next_serial;
 use super::searches::free_block;
-use super::tasks::rest;
+use super::tasks::leave;
 use super::tasks::task_in;
 use super::tasks::turn;
 use acts::Found;
 use acts::Said;
 use acts::SlotRow;
+use acts::tasks::after;
 use acts::tasks::aimed;
 use acts::tasks::freed;
 use acts::tasks::hand_of;
@@ -17,9 +18,9 @@ use acts::words::quiet;
 use acts::words::refuses;
 use rulebook::Sizes;
 use rulebook::Stage;
+use rulebook::Task;
 ghost use mathlib.Core.Path.{_≡_};
-ghost use Prim.Native.Nat.{_<_};
-ghost use Rattle.work.specs.Stepped.{Fresh, Held, aimedAt, fillMade, filledLast, filledNext, givenUp, stepAt, takenAt, tookAt};
+ghost use Rattle.work.specs.Stepped.{Fresh, Held, aimedAt, fillMade, filledLast, filledNext, filling, givenUp, lastCell, moreCells, stepAt, takenAt, tookAt};
 
 // The task goes on at stage g with the block b, at cell 0.
 fn aim(words: &mut [u32], d: Sizes, t: u32, g: Stage, b: u32) -> Said
@@ -36,7 +37,7 @@ fn aim(words: &mut [u32], d: Sizes, t: u32, g: Stage, b: u32) -> Said
 
 // Block b is taken: V = 0.
 fn take_block(words: &mut [u32], d: Sizes, t: u32, g: Stage, b: u32) -> Said
-    requires { ⌜ Held d (now words) t × (b < d .b) ⌝ }
+    requires { ⌜ Held d (now words) t ⌝ }
     ensures { λ r. ⌜ (now (words .exit), r) ≡ tookAt (now (words .entry)) d t g b ⌝ }
 {
     if !pool::take(words, d, b) {
@@ -51,12 +52,11 @@ fn give_up(words: &mut [u32], d: Sizes, t: u32) -> Said
     ensures { λ r. ⌜ (now (words .exit), r) ≡ givenUp (now (words .entry)) d t ⌝ }
 {
     let k = task_in(words, d, t);
-    let SlotRow::Row(x) = pool::load_slot(words, d, k.fresh) else {
+    let SlotRow::Row(x) = pool::see_slot(words, d, k.fresh) else {
         return refuses(2);
     };
     let free = freed(x.serial);
-    pool::store_slot(words, d, k.fresh, free);
-    rest(words, d, t);
+    leave(words, d, t, k.fresh, free);
     full(k.steps)
 }
 
@@ -84,7 +84,7 @@ fn fill_makes(words: &mut [u32], d: Sizes, t: u32, s: u32, i: u32) -> Said
     makes(words, d, t, s, k.target, 0)
 }
 
-pub fn fill_last(words: &mut [u32], d: Sizes, t: u32, i: u32) -> Said
+fn fill_last(words: &mut [u32], d: Sizes, t: u32, i: u32) -> Said
     requires { ⌜ Held d (now words) t ⌝ }
     ensures { λ r. ⌜ (now (words .exit), r) ≡ filledLast (now (words .entry)) d t i ⌝ }
 {
@@ -105,19 +105,46 @@ fn fill_next(words: &mut [u32], d: Sizes, t: u32) -> Said
     if !pool::fill(words, d, k.target, w.cell, k.value) {
         return refuses(2);
     }
-    let q = hand_of(w.cell + 1);
+    let next = after(w.cell);
+    let q = hand_of(next);
     turn(words, d, t, Stage::FillNew, q)
 }
 
-// Write v to the cell in hand; the last one makes the handle.
-pub fn step_fill_new(words: &mut [u32], d: Sizes, t: u32) -> Said
+// Another cell follows the one in hand.
+fn more_cells(k: Task, put: bool, n: u32) -> bool
+    ensures { λ r. ⌜ r ≡ moreCells put k n ⌝ }
+{
+    if put {
+        return false;
+    }
+    let w = k.hand;
+    let next = after(w.cell);
+    if next == n {
+        return false;
+    }
+    true
+}
+
+// The cell of the last write: i of a copy, else the one in hand.
+fn last_cell(k: Task, put: bool) -> u32
+    ensures { λ r. ⌜ r ≡ lastCell put k ⌝ }
+{
+    if put {
+        return k.cell;
+    }
+    let w = k.hand;
+    w.cell
+}
+
+// Write v to the cell in hand of a new, or at i of a copy that is done (put); the last write makes the handle.
+pub fn step_fill(words: &mut [u32], d: Sizes, t: u32, put: bool) -> Said
     requires { ⌜ Held d (now words) t ⌝ }
-    ensures { λ r. ⌜ (now (words .exit), r) ≡ stepAt (now (words .entry)) d t Stage.FillNew ⌝ }
+    ensures { λ r. ⌜ (now (words .exit), r) ≡ stepAt (now (words .entry)) d t (filling put) ⌝ }
 {
     let k = task_in(words, d, t);
-    let w = k.hand;
-    if w.cell + 1 == d.n {
-        return fill_last(words, d, t, w.cell);
+    if more_cells(k, put, d.n) {
+        return fill_next(words, d, t);
     }
-    fill_next(words, d, t)
+    let i = last_cell(k, put);
+    fill_last(words, d, t, i)
 }

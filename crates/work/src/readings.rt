@@ -6,6 +6,7 @@ use acts::Reader;
 use acts::Said;
 use acts::reading::middle;
 use acts::reading::probed;
+use acts::tasks::after;
 use acts::tasks::answer;
 use acts::tasks::guessed;
 use acts::tasks::hand_of;
@@ -22,7 +23,7 @@ use rulebook::Reading;
 use rulebook::Sizes;
 use rulebook::Stage;
 ghost use mathlib.Core.Path.{_≡_};
-ghost use Rattle.acts.specs.Plans.{stageFor};
+ghost use Rattle.acts.specs.StepPlans.{stageFor};
 ghost use Rattle.work.specs.Stepped.{Held, boundedAt, gotAt, pagedAt, settledAt, stepAt, taskUp};
 
 // ---- the cell in hand is settled
@@ -44,11 +45,12 @@ fn page_settles(words: &mut [u32], d: Sizes, t: u32, v: u32) -> Said
 {
     let k = task_in(words, d, t);
     let w = k.hand;
-    if w.cell + 1 == k.until {
+    let next = after(w.cell);
+    if next == k.until {
         rest(words, d, t);
         return handed_last(k.steps, w.cell, v);
     }
-    let q = hand_of(w.cell + 1);
+    let q = hand_of(next);
     turn(words, d, t, Stage::Paging(Reading::Guess), q);
     handed(w.cell, v)
 }
@@ -73,7 +75,7 @@ fn settles(words: &mut [u32], d: Sizes, t: u32, o: Reader, w: Hand) -> Said
 // ---- one step each
 
 // First: read the cell, the guess.
-fn step_guess(words: &mut [u32], d: Sizes, t: u32, o: Reader) -> Said
+pub fn step_guess(words: &mut [u32], d: Sizes, t: u32, o: Reader) -> Said
     requires { ⌜ Held d (now words) t ⌝ }
     ensures { λ r. ⌜ (now (words .exit), r) ≡ stepAt (now (words .entry)) d t (stageFor o Reading.Guess) ⌝ }
 {
@@ -88,7 +90,7 @@ fn step_guess(words: &mut [u32], d: Sizes, t: u32, o: Reader) -> Said
 }
 
 // Second: read V; if V = L the guess is the answer.
-fn step_version(words: &mut [u32], d: Sizes, t: u32, o: Reader) -> Said
+pub fn step_version(words: &mut [u32], d: Sizes, t: u32, o: Reader) -> Said
     requires { ⌜ Held d (now words) t ⌝ }
     ensures { λ r. ⌜ (now (words .exit), r) ≡ stepAt (now (words .entry)) d t (stageFor o Reading.Version) ⌝ }
 {
@@ -105,7 +107,7 @@ fn step_version(words: &mut [u32], d: Sizes, t: u32, o: Reader) -> Said
 }
 
 // Third: read the log's length; if 0, the guess is the answer.
-fn step_length(words: &mut [u32], d: Sizes, t: u32, o: Reader) -> Said
+pub fn step_length(words: &mut [u32], d: Sizes, t: u32, o: Reader) -> Said
     requires { ⌜ Held d (now words) t ⌝ }
     ensures { λ r. ⌜ (now (words .exit), r) ≡ stepAt (now (words .entry)) d t (stageFor o Reading.Length) ⌝ }
 {
@@ -135,7 +137,7 @@ fn bounds(words: &mut [u32], d: Sizes, t: u32, o: Reader, w: Hand) -> Said
 }
 
 // Then one probe a step. A search that is over has no entry in its middle.
-fn step_probe(words: &mut [u32], d: Sizes, t: u32, o: Reader) -> Said
+pub fn step_probe(words: &mut [u32], d: Sizes, t: u32, o: Reader) -> Said
     requires { ⌜ Held d (now words) t ⌝ }
     ensures { λ r. ⌜ (now (words .exit), r) ≡ stepAt (now (words .entry)) d t (stageFor o Reading.Probe) ⌝ }
 {
@@ -150,42 +152,4 @@ fn step_probe(words: &mut [u32], d: Sizes, t: u32, o: Reader) -> Said
     };
     let q = probed(e, k.number, w);
     bounds(words, d, t, o, q)
-}
-
-// ---- whoever reads
-
-pub fn step_get(words: &mut [u32], d: Sizes, t: u32, r: Reading) -> Said
-    requires { ⌜ Held d (now words) t ⌝ }
-    ensures { λ s. ⌜ (now (words .exit), s) ≡ stepAt (now (words .entry)) d t (Stage.Getting r) ⌝ }
-{
-    match r {
-        Reading::Guess => step_guess(words, d, t, Reader::Get),
-        Reading::Version => step_version(words, d, t, Reader::Get),
-        Reading::Length => step_length(words, d, t, Reader::Get),
-        Reading::Probe => step_probe(words, d, t, Reader::Get),
-    }
-}
-
-pub fn step_copy(words: &mut [u32], d: Sizes, t: u32, r: Reading) -> Said
-    requires { ⌜ Held d (now words) t ⌝ }
-    ensures { λ s. ⌜ (now (words .exit), s) ≡ stepAt (now (words .entry)) d t (Stage.Copying r) ⌝ }
-{
-    match r {
-        Reading::Guess => step_guess(words, d, t, Reader::Copy),
-        Reading::Version => step_version(words, d, t, Reader::Copy),
-        Reading::Length => step_length(words, d, t, Reader::Copy),
-        Reading::Probe => step_probe(words, d, t, Reader::Copy),
-    }
-}
-
-pub fn step_page(words: &mut [u32], d: Sizes, t: u32, r: Reading) -> Said
-    requires { ⌜ Held d (now words) t ⌝ }
-    ensures { λ s. ⌜ (now (words .exit), s) ≡ stepAt (now (words .entry)) d t (Stage.Paging r) ⌝ }
-{
-    match r {
-        Reading::Guess => step_guess(words, d, t, Reader::Page),
-        Reading::Version => step_version(words, d, t, Reader::Page),
-        Reading::Length => step_length(words, d, t, Reader::Page),
-        Reading::Probe => step_probe(words, d, t, Reader::Page),
-    }
 }

@@ -23,7 +23,7 @@ fn stands_at(words: &[u32], d: Sizes, b: u32, j: u32) -> Found
     requires { ⌜ Spans d (now words) × (j < d .h) ⌝ }
     ensures { λ r. ⌜ r ≡ standsAt (sight (now (words .entry)) d) b j ⌝ }
 {
-    let x = pool::load_slot(words, d, j);
+    let x = pool::see_slot(words, d, j);
     standing(x, b, j)
 }
 
@@ -31,7 +31,7 @@ fn vacant_at(words: &[u32], d: Sizes, j: u32) -> Found
     requires { ⌜ Spans d (now words) × (j < d .h) ⌝ }
     ensures { λ r. ⌜ r ≡ vacantAt (sight (now (words .entry)) d) j ⌝ }
 {
-    let x = pool::load_slot(words, d, j);
+    let x = pool::see_slot(words, d, j);
     vacant(x, j)
 }
 
@@ -39,7 +39,7 @@ fn lives_at(words: &[u32], d: Sizes, j: u32) -> Found
     requires { ⌜ Spans d (now words) × (j < d .h) ⌝ }
     ensures { λ r. ⌜ r ≡ livesAt (sight (now (words .entry)) d) j ⌝ }
 {
-    let x = pool::load_slot(words, d, j);
+    let x = pool::see_slot(words, d, j);
     live_at(x, j)
 }
 
@@ -47,7 +47,7 @@ fn names_at(words: &[u32], d: Sizes, j: u32, t: u32) -> Found
     requires { ⌜ Spans d (now words) × (t < d .t) ⌝ }
     ensures { λ r. ⌜ r ≡ namesAt (sight (now (words .entry)) d) j t ⌝ }
 {
-    let x = pool::load_task(words, d, t);
+    let x = pool::see_task(words, d, t);
     naming(x, j, t)
 }
 
@@ -55,7 +55,7 @@ fn fills_at(words: &[u32], d: Sizes, b: u32, t: u32) -> Found
     requires { ⌜ Spans d (now words) × (t < d .t) ⌝ }
     ensures { λ r. ⌜ r ≡ fillsAt (sight (now (words .entry)) d) b t ⌝ }
 {
-    let x = pool::load_task(words, d, t);
+    let x = pool::see_task(words, d, t);
     filler(x, b, t)
 }
 
@@ -146,13 +146,13 @@ fn free_at(words: &[u32], d: Sizes, b: u32) -> Found
     unheld(x, b)
 }
 
-// The lowest free block.
+// The lowest free block. It is asked of each block whether it is there: no division for B.
 pub fn free_block(words: &[u32], d: Sizes) -> Found
     requires { ⌜ Spans d (now words) ⌝ }
     ensures { λ r. ⌜ r ≡ freeIn (sight (now (words .entry)) d) ⌝ }
 {
     let mut b = 0;
-    while b < d.b {
+    while pool::near(words, d, b) {
         let x = free_at(words, d, b);
         if none_yet(x) {
             b += 1;

@@ -1,10 +1,10 @@
 // One step each: a set, in place or by a copy.
 use super::ends::makes;
 use super::ends::next_serial;
-use super::news::fill_last;
 use super::tasks::task_in;
 use super::tasks::turn;
 use acts::Said;
+use acts::tasks::after;
 use acts::tasks::answer;
 use acts::tasks::guessed;
 use acts::tasks::hand_of;
@@ -100,7 +100,8 @@ fn write_makes(words: &mut [u32], d: Sizes, t: u32, s: u32) -> Said
     if !pool::write(words, d, k.block, k.cell, k.value) {
         return refuses(2);
     }
-    makes(words, d, t, s, k.block, k.number + 1)
+    let l = after(k.number);
+    makes(words, d, t, s, k.block, l)
 }
 
 pub fn step_write(words: &mut [u32], d: Sizes, t: u32) -> Said
@@ -122,11 +123,12 @@ fn copied(words: &mut [u32], d: Sizes, t: u32) -> Said
 {
     let k = task_in(words, d, t);
     let w = k.hand;
-    if w.cell + 1 == d.n {
+    let next = after(w.cell);
+    if next == d.n {
         let q = hand_of(k.cell);
         return turn(words, d, t, Stage::Put, q);
     }
-    let q = hand_of(w.cell + 1);
+    let q = hand_of(next);
     turn(words, d, t, Stage::Copying(Reading::Guess), q)
 }
 
@@ -142,13 +144,4 @@ pub fn step_fill_copy(words: &mut [u32], d: Sizes, t: u32) -> Said
         return refuses(2);
     }
     copied(words, d, t)
-}
-
-// Write v at i, and the copy is done.
-pub fn step_put(words: &mut [u32], d: Sizes, t: u32) -> Said
-    requires { ⌜ Held d (now words) t ⌝ }
-    ensures { λ r. ⌜ (now (words .exit), r) ≡ stepAt (now (words .entry)) d t Stage.Put ⌝ }
-{
-    let k = task_in(words, d, t);
-    fill_last(words, d, t, k.cell)
 }

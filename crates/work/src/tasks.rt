@@ -1,19 +1,18 @@
 // The row of a task in a step: read, changed and written in place.
 use acts::Said;
-use acts::tasks::counted;
 use acts::tasks::idle_task;
 use acts::tasks::moved;
+use acts::tasks::ticked;
 use acts::words::quiet;
 use rulebook::Hand;
 use rulebook::Sizes;
+use rulebook::Slot;
 use rulebook::Stage;
 use rulebook::Task;
 ghost use mathlib.Core.Path.{_≡_};
-ghost use Prim.Native.Nat.{_<_};
 ghost use Rattle.rulebook.specs.State.{idle};
-ghost use Rattle.pool.specs.Places.{Spans};
-ghost use Rattle.pool.specs.Pool.{putTask};
-ghost use Rattle.work.specs.Stepped.{Held, taskUp, turnedTo};
+ghost use Rattle.pool.specs.Pool.{putSlot, putTask};
+ghost use Rattle.work.specs.Stepped.{Held, Seat, taskUp, turnedTo};
 
 // Task t with this step counted. Its stage is known where it is called, and not read again.
 pub fn task_in(words: &[u32], d: Sizes, t: u32) -> Task
@@ -21,7 +20,7 @@ pub fn task_in(words: &[u32], d: Sizes, t: u32) -> Task
     ensures { λ k. ⌜ k ≡ taskUp (now (words .entry)) d t ⌝ }
 {
     let k = pool::task_for(words, d, t, Stage::Idle);
-    counted(k)
+    ticked(k)
 }
 
 // The task goes on at stage g with w in hand, and nothing is said.
@@ -35,9 +34,18 @@ pub fn turn(words: &mut [u32], d: Sizes, t: u32, g: Stage, w: Hand) -> Said
     quiet()
 }
 
+// The task is idle, and slot j has become x.
+pub fn leave(words: &mut [u32], d: Sizes, t: u32, j: u32, x: Slot)
+    requires { ⌜ Seat d (now words) t j ⌝ }
+    ensures { λ _. ⌜ now (words .exit) ≡ putTask (putSlot (now (words .entry)) j x) d t idle ⌝ }
+{
+    pool::store_slot(words, d, j, x);
+    rest(words, d, t);
+}
+
 // The task is idle.
 pub fn rest(words: &mut [u32], d: Sizes, t: u32)
-    requires { ⌜ Spans d (now words) × (t < d .t) ⌝ }
+    requires { ⌜ Held d (now words) t ⌝ }
     ensures { λ _. ⌜ now (words .exit) ≡ putTask (now (words .entry)) d t idle ⌝ }
 {
     let z = idle_task();

@@ -11,7 +11,8 @@ use lib.ListN.{List·getD-append, drop, getD, length, length-append, length-drop
 use lib.Seq.{getD-append-add, getD-drop}
 use borrow.Author.Tests.{eqb-true, le-ltb, lt-ltb, ltb-false}
 use Rattle.acts.specs.declared.Act.{Act}
-use Rattle.acts.specs.Plans.{planGet, planNew, planPage, planRelease, planSet, planStep, refused}
+use Rattle.acts.specs.Plans.{planGet, planNew, planPage, planRelease, planSet, refused}
+use Rattle.acts.specs.StepPlans.{planStep}
 use Rattle.acts.specs.Sight.{Sight}
 use Rattle.bridge.specs.Asked.{Get, LookCell, LookEntry, LookLog, LookTask, LookVersion, New, Open, Page, Release, Report, Set, Step, asked}
 use Rattle.pool.specs.Acts.{applied-answers, applied-done, applied-keeps, applied-not}

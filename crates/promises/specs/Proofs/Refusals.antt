@@ -17,7 +17,8 @@ use Rattle.acts.specs.declared.SlotRow.the-variants as slotrow
 use Rattle.acts.specs.declared.TaskRow.{TaskRow}
 use Rattle.acts.specs.declared.TaskRow.the-variants as taskrow
 use Rattle.acts.specs.declared.Touch.{Touch}
-use Rattle.acts.specs.Plans.{appendsEntry, copyGoes, exchangesOn, fillsCopy, fillsNew, finishes, freeIn, getGoes, getOn, givesUp, liveIn, newOn, pageGoes, pageOn, pageSettles, planAt, planGet, planNew, planPage, planRelease, planRow, planSet, planStep, puts, readIn, readsOld, readyIn, refused, releaseAt, releaseOn, reservesFor, setAt, setOn, takes, userIn, vacantIn, writesNew}
+use Rattle.acts.specs.Plans.{after, freeIn, getOn, liveIn, newOn, pageOn, planGet, planNew, planPage, planRelease, planSet, readyIn, refused, releaseAt, releaseOn, reservesFor, setAt, setOn, ticked, userIn, vacantIn}
+use Rattle.acts.specs.StepPlans.{appendsEntry, copyGoes, exchangesOn, fillsCopy, fillsNew, finishes, getGoes, givesUp, pageGoes, pageSettles, planAt, planRow, planStep, puts, readIn, readsOld, takes, writesNew}
 use Rattle.acts.specs.Sight.{Sight}
 use Rattle.block.specs.declared.Looked.{Looked}
 use Rattle.block.specs.declared.Looked.the-variants as looked
@@ -29,7 +30,6 @@ use Rattle.rulebook.specs.declared.Stage.the-variants as stage
 use Rattle.rulebook.specs.declared.Task.{Task}
 use Rattle.rulebook.specs.History.{accepted}
 use Rattle.rulebook.specs.Sizes.{if_then_else_, lastSerial, slotOf}
-use Rattle.rulebook.specs.Steps.{counted}
 use Rattle.rulebook.specs.Tests.{if-case}
 
 -- answered 0 or 10, or nothing is done and a number is given
@@ -63,7 +63,7 @@ module _ (t : ℕ) where
   unfolding pageGoes pageSettles
   fair-page read.Bad k = no 2
   fair-page (read.Got (progress.Going r w)) k = inl refl
-  fair-page (read.Got (progress.Settled w)) k = if-case Fair (eqb (w .cell + 1) (k .until)) (λ _. inl refl) (λ _. inl refl)
+  fair-page (read.Got (progress.Settled w)) k = if-case Fair (eqb (after (w .cell)) (k .until)) (λ _. inl refl) (λ _. inl refl)
 
   fair-finish : (y : SlotRow) (x : Touch) (k : Task) (b L : ℕ) → Fair (finishes y x t k b L)
   unfolding finishes
@@ -98,12 +98,12 @@ module _ (t : ℕ) where
   fair-at stage.Idle e k = no 6
   fair-at stage.TakeNew e k = fair-take (freeIn e) e k stage.FillNew
   fair-at stage.FillNew e k =
-      if-case Fair (eqb (k .hand .cell + 1) (e .sizes .n)) (λ _. fair-finish (e .slot (k .fresh)) _ k (k .target) 0) (λ _. inl refl)
+      if-case Fair (eqb (after (k .hand .cell)) (e .sizes .n)) (λ _. fair-finish (e .slot (k .fresh)) _ k (k .target) 0) (λ _. inl refl)
   fair-at (stage.Getting r) e k = fair-get (readIn r e k) k
   fair-at stage.Exchange e k = fair-exchange (e .version (k .block)) (e .sizes .n) k
   fair-at stage.Read e k = fair-old (e .cell (k .block) (k .cell)) k
   fair-at stage.Append e k = inl refl
-  fair-at stage.Write e k = fair-finish (e .slot (k .fresh)) _ k (k .block) (k .number + 1)
+  fair-at stage.Write e k = fair-finish (e .slot (k .fresh)) _ k (k .block) (after (k .number))
   fair-at stage.TakeCopy e k = fair-take (freeIn e) e k (stage.Copying reading.Guess)
   fair-at (stage.Copying r) e k = fair-copy (readIn r e k) k
   fair-at stage.FillCopy e k = inl refl
@@ -113,7 +113,7 @@ module _ (t : ℕ) where
   fair-row : (x : TaskRow) (e : Sight) → Fair (planRow x e t)
   unfolding planRow
   fair-row taskrow.Bad e = no 2
-  fair-row (taskrow.Row k) e = fair-at (k .stage) e (counted k)
+  fair-row (taskrow.Row k) e = fair-at (k .stage) e (ticked k)
 
   pub step-fair : (e : Sight) → Fair (planStep e t)
   unfolding planStep

@@ -1,19 +1,20 @@
-use Rattle.pool.specs.Lends.{lends}
+use Rattle.pool.specs.Lends.{lends, looks}
 use Rattle.pool.specs.Parts.{part}
-use Rattle.pool.specs.Places.{blockPart}
 use borrow.Author.Needs.{needs}
 use Rattle.pool.proofs.blocks.entry.Statement.{statement}
 use Rattle.pool.proofs.blocks.entry.Tie as tie
 
 pub entry-spec : {M : Type 1} → statement M
-unfolding part blockPart
+unfolding part
 entry-spec =
     tie.close
     (tie.spec
-    (λ c κs. search (needs, lends))
-    (λ c. search (needs, lends))
-    (λ c. search (needs, lends))
-    (λ c. search (needs, lends))
-    (λ c. search (needs, lends))
-    (λ c κs. search (needs, lends))
-    (λ c. cc))
+    (λ c κs. search (needs, lends, looks))
+    (λ c. search (needs, lends, looks))
+    (λ c κs. search (needs, lends, looks))
+    (λ c. search (needs, lends, looks))
+    (λ c. search (needs, lends, looks))
+    (λ c. search (needs, lends, looks))
+    (λ c. search (needs, lends, looks))
+    (λ c κs. search (needs, lends, looks))
+    (λ c. search (needs, lends, looks)))

@@ -9,11 +9,14 @@ unfolding part splice
 fill-spec =
     tie.close
     (tie.spec
-    (λ c κs. search (needs, lends))
-    (λ c. search (needs, lends))
-    (λ c. search (needs, lends))
-    (λ c. search (needs, lends))
-    (λ c. search (needs, lends))
-    (λ c κs. search (needs, lends))
-    (λ c. search (needs, lends))
-    (λ c. search (needs, touches)))
+    (λ c κs. search (needs, lends, touches))
+    (λ c. search (needs, lends, touches))
+    (λ c. search (needs, lends, touches))
+    (λ c κs. search (needs, lends, touches))
+    (λ c. search (needs, lends, touches))
+    (λ c. search (needs, lends, touches))
+    (λ c. search (needs, lends, touches))
+    (λ c. search (needs, lends, touches))
+    (λ c κs. search (needs, lends, touches))
+    (λ c. search (needs, lends, touches))
+    (λ c. search (needs, lends, touches)))

@@ -1,4 +1,4 @@
-use Rattle.store.specs.Calls.{calls, looks, seen-below}
+use Rattle.store.specs.Calls.{calls, looks}
 use Rattle.pool.specs.Calls.{lookEntryIn}
 use borrow.Author.Needs.{needs}
 use Rattle.store.proofs.looks.look_entry.Statement.{statement}
@@ -9,13 +9,13 @@ unfolding lookEntryIn
 look-entry-spec =
     tie.close
     (tie.spec
-    (λ c κs. search (needs, calls, looks, seen-below))
-    (λ c. search (needs, calls, looks, seen-below))
-    (λ c. search (needs, calls, looks, seen-below))
-    (λ c. search (needs, calls, looks, seen-below))
-    (λ c κs. search (needs, calls, looks, seen-below))
-    (λ c. search (needs, calls, looks, seen-below))
-    (λ c. search (needs, calls, looks, seen-below))
-    (λ c κs. search (needs, calls, looks, seen-below))
-    (λ c κs. search (needs, calls, looks, seen-below))
-    (λ c. search (needs, calls, looks, seen-below)))
+    (λ c κs. search (needs, calls, looks))
+    (λ c. search (needs, calls, looks))
+    (λ c. search (needs, calls, looks))
+    (λ c. search (needs, calls, looks))
+    (λ c κs. search (needs, calls, looks))
+    (λ c. search (needs, calls, looks))
+    (λ c. search (needs, calls, looks))
+    (λ c κs. search (needs, calls, looks))
+    (λ c κs. search (needs, calls, looks))
+    (λ c. search (needs, calls, looks)))

@@ -10,8 +10,6 @@ ready-spec =
     (λ c. search (needs, asks))
     (λ c κs. search (needs, asks))
     (λ c. search (needs, asks))
-    (λ c. search (needs, asks))
-    (λ c. search (needs, asks))
     (λ c κs. search (needs, asks))
     (λ c. search (needs, asks))
     (λ c. search (needs, asks)))

@@ -1,6 +1,4 @@
 use Rattle.winchclover.specs.Answered.{answers}
-use lib.ListN.{length-set}
-use native.Mathlib.Omega.{arith}
 use borrow.Author.Needs.{needs}
 use Rattle.winchclover.proofs.answers.say.Statement.{statement}
 use Rattle.winchclover.proofs.answers.say.Tie as tie
@@ -9,21 +7,9 @@ pub say-spec : {M : Type 1} → statement M
 say-spec =
     tie.close
     (tie.spec
+    (λ c κs. search (needs, answers))
     (λ c. search (needs, answers))
-    (λ c. simp length-set (omega arith))
-    (λ c. simp length-set (omega arith))
-    (λ c. simp length-set (omega arith))
-    (λ c. simp length-set (omega arith))
-    (λ c. simp length-set (omega arith))
-    (λ c. simp length-set (omega arith))
-    (λ c. simp length-set (omega arith))
-    (λ c. simp length-set (omega arith))
-    (λ c. simp length-set (omega arith))
-    (λ c. simp length-set (omega arith))
-    (λ c. simp length-set (omega arith))
-    (λ c. simp length-set (omega arith))
-    (λ c. simp length-set (omega arith))
-    (λ c. simp length-set (omega arith))
-    (λ c. simp length-set (omega arith))
+    (λ c. search (needs, answers))
+    (λ c κs. search (needs, answers))
     (λ c. search (needs, answers))
     (λ c. search (needs, answers)))

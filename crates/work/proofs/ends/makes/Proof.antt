@@ -9,7 +9,6 @@ makes-spec =
     (tie.spec
     (λ c κs. search (needs, makes))
     (λ c κs. search (needs, makes))
-    (λ c κs. search (needs, makes))
     (λ c. search (needs, makes))
     (λ c. search (needs, makes))
     (λ c κs. search (needs, makes))

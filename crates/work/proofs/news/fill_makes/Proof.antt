@@ -1,4 +1,4 @@
-use Rattle.work.specs.Works.{fresh-left, lasts}
+use Rattle.work.specs.Works.{lasts}
 use borrow.Author.Needs.{needs}
 use Rattle.work.proofs.news.fill_makes.Statement.{statement}
 use Rattle.work.proofs.news.fill_makes.Tie as tie
@@ -12,6 +12,6 @@ fill-makes-spec =
     (λ c κs. search (needs, lasts))
     (λ c. search (needs, lasts))
     (λ c. search (needs, lasts))
-    (λ c κs. fresh-left _ _ _ _ (c .before .before .before .before .before .before .before .before .before .pre) _ _ _ (c .before .before .before .before .fill .ensures) (search (needs, lasts, c .before .before .before .before .before .before .before .before .before .pre)))
+    (λ c κs. search (needs, lasts))
     (λ c. search (needs, lasts))
     (λ c. search (needs, lasts)))

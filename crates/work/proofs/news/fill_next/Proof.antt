@@ -1,5 +1,4 @@
 use Rattle.work.specs.News.{news}
-use Rattle.work.specs.Stepped.{held-left}
 use borrow.Author.Needs.{needs}
 use Rattle.work.proofs.news.fill_next.Statement.{statement}
 use Rattle.work.proofs.news.fill_next.Tie as tie
@@ -13,8 +12,8 @@ fill-next-spec =
     (λ c κs. search (needs, news))
     (λ c. search (needs, news))
     (λ c. search (needs, news))
-    (λ c. search (needs, news))
     (λ c κs. search (needs, news))
-    (λ c κs. held-left _ _ _ (c .before .before .before .before .before .before .before .before .before .before .before .before .pre) _ _ _ (c .before .before .before .before .before .before .fill .ensures) (search (needs, news, c .before .before .before .before .before .before .before .before .before .before .before .before .pre)))
+    (λ c κs. search (needs, news))
+    (λ c κs. search (needs, news))
     (λ c. search (needs, news))
     (λ c. search (needs, news)))

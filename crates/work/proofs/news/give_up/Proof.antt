@@ -17,6 +17,5 @@ give-up-spec =
     (λ c κs. search (needs, gives))
     (λ c κs. search (needs, gives))
     (λ c κs. search (needs, gives))
-    (λ c κs. search (needs, gives))
     (λ c. search (needs, gives))
     (λ c. search (needs, gives)))

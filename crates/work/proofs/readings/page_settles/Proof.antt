@@ -8,10 +8,9 @@ page-settles-spec =
     tie.close
     (tie.spec
     (λ c κs. search (needs, settling))
-    (λ c. search (needs, settling))
     (λ c κs. search (needs, settling))
     (λ c κs. search (needs, settling))
-    (λ c. search (needs, settling))
+    (λ c κs. search (needs, settling))
     (λ c. search (needs, settling))
     (λ c. search (needs, settling))
     (λ c κs. search (needs, settling))

@@ -3,7 +3,7 @@ use mathlib.Core.Path.{_≡_}
 use Rattle.acts.specs.declared.Found.the-variants.{None}
 use Rattle.acts.specs.Plans.{firstOf, freeAt}
 use Rattle.pool.specs.Pool.{sight}
-use Rattle.work.specs.Scans.{scans}
+use Rattle.work.specs.Scans.{scans, theres}
 use borrow.Author.Needs.{needs}
 use Rattle.work.proofs.searches.free_block.Statement.{statement}
 use Rattle.work.proofs.searches.free_block.Tie as tie
@@ -23,8 +23,9 @@ free-block-spec =
     (λ c. search (needs, scans))
     (λ c κs. search (needs, scans))
     (λ c κs. search (needs, scans))
-    (λ c. search (needs, scans))
-    (λ c. search (needs, scans))
-    (λ c. search (needs, scans))
-    (λ c. search (needs, scans))
-    (λ c. search (needs, scans)))
+    (λ c κs. search (needs, scans))
+    (λ c. search (needs, theres))
+    (λ c. search (needs, theres))
+    (λ c. search (needs, scans, theres))
+    (λ c. search (needs, scans, theres))
+    (λ c. search (needs, scans, theres)))

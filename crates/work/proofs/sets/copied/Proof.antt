@@ -8,10 +8,9 @@ copied-spec =
     tie.close
     (tie.spec
     (λ c κs. search (needs, copies))
-    (λ c. search (needs, copies))
     (λ c κs. search (needs, copies))
     (λ c κs. search (needs, copies))
-    (λ c. search (needs, copies))
+    (λ c κs. search (needs, copies))
     (λ c. search (needs, copies))
     (λ c. search (needs, copies))
     (λ c κs. search (needs, copies))

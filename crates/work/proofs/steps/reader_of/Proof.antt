@@ -1,0 +1,12 @@
+use Rattle.work.specs.Coded.{coders}
+use borrow.Author.Needs.{needs}
+use Rattle.work.proofs.steps.reader_of.Statement.{statement}
+use Rattle.work.proofs.steps.reader_of.Tie as tie
+
+pub reader-of-spec : {M : Type 1} → statement M
+reader-of-spec =
+    tie.close
+    (tie.spec
+    (λ c. search (needs, coders))
+    (λ c. search (needs, coders))
+    (λ c. search (needs, coders)))
