@@ -4,18 +4,18 @@ use Prim.Native.Nat.{_+_, _<_, ℕ}
 use mathlib.Core.List.{List, [], _∷_}
 use mathlib.Core.Path.{_∙_, _≡_, ap, refl, subst, sym}
 use native.Mathlib.Omega.{arith}
-use Rattle.pool.specs.declared.Header.{Header}
+use Rattle.layout.specs.declared.Header.{Header}
 use Rattle.rulebook.specs.declared.Sizes.{Sizes}
 use Rattle.bridge.specs.Sound.{Sound}
-use Rattle.pool.specs.Header.{headerOf}
-use Rattle.pool.specs.Places.{Spans}
-use Rattle.pool.specs.Sizing.{header-spans}
+use Rattle.layout.specs.Header.{headerOf}
+use Rattle.layout.specs.Places.{Spans}
+use Rattle.layout.specs.Sizing.{header-spans}
 use Rattle.survey.specs.Broken.{brokenIn, brokenOf, brokenUnder, rule2, rule3, rule4, rule5, rule6, rule7}
 use Rattle.survey.specs.Decided.{decides-2, decides-3, decides-4, decides-5, decides-6, decides-7}
 use Rattle.audit.specs.First.{First, first-all, first-before, first-broken, first-end, first-least, first-next, first-one, first-zero, ruleOf}
 use Rattle.survey.specs.Rules.{Rule1, Rule2, Rule3, Rule4, Rule5, Rule6, Rule7}
 use Rattle.survey.specs.Whole.{header-one, one-header, rest-sound, sound-rest}
-use Rattle.pool.specs.declared.Header.the-variants as header
+use Rattle.layout.specs.declared.Header.the-variants as header
 
 -- rules 2 to 7 of a pool whose header gives the sizes d
 abbrev pub rulesOf : Sizes → List ℕ → List (Type 0)

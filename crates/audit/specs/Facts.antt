@@ -13,9 +13,9 @@ use Rattle.rulebook.specs.declared.Slot.{Slot}
 use Rattle.rulebook.specs.declared.Stage.{Stage}
 use Rattle.rulebook.specs.declared.Task.{Task}
 use Rattle.block.specs.Words.{versionIn}
-use Rattle.pool.specs.Places.{Spans, blockPart, slotPart, taskPart}
-use Rattle.pool.specs.Pool.{viewOf}
-use Rattle.pool.specs.Rows.{slotRead, taskRead}
+use Rattle.layout.specs.Places.{Spans, blockPart, slotPart, taskPart}
+use Rattle.layout.specs.Pool.{viewOf}
+use Rattle.layout.specs.Rows.{slotRead, taskRead}
 use Rattle.rulebook.specs.Sizes.{lastSerial}
 use Rattle.rulebook.specs.State.{names}
 use Rattle.rules.specs.Paced.{Paced, TaskRange}

@@ -12,12 +12,12 @@ use Rattle.rulebook.specs.declared.Stage.{Stage}
 use Rattle.rulebook.specs.declared.Task.{Task}
 use Rattle.block.specs.Layout.{bumpOf, lengthOf}
 use Rattle.block.specs.Reads.{log-length-at}
-use Rattle.pool.specs.Keeps.{block-sized}
+use Rattle.layout.specs.Keeps.{block-sized}
 use Rattle.bridge.specs.Sound.{filledTo}
-use Rattle.pool.specs.Places.{Spans, blockPart, taskPart}
-use Rattle.pool.specs.Pool.{viewOf}
-use Rattle.pool.specs.Rows.{taskRead}
-use Rattle.pool.specs.View.{view-block-at}
+use Rattle.layout.specs.Places.{Spans, blockPart, taskPart}
+use Rattle.layout.specs.Pool.{viewOf}
+use Rattle.layout.specs.Rows.{taskRead}
+use Rattle.layout.specs.View.{view-block-at}
 use Rattle.rulebook.specs.State.{Block, fills, logAt}
 use Rattle.rules.specs.Paced.{Paced, TaskRange}
 use Rattle.rules.specs.Rules.{Fills, TaskRule}

@@ -17,10 +17,10 @@ use Rattle.block.specs.Layout.{arena, entryOf, lengthOf, placeOf}
 use Rattle.block.specs.Reads.{entry-at, log-length-at}
 use Rattle.block.specs.Ways.{block-cell}
 use Rattle.block.specs.Words.{entryIn, entryUnder, lengthIn}
-use Rattle.pool.specs.Keeps.{block-sized}
-use Rattle.pool.specs.Places.{Spans, blockPart}
-use Rattle.pool.specs.Pool.{viewOf}
-use Rattle.pool.specs.View.{view-block-at}
+use Rattle.layout.specs.Keeps.{block-sized}
+use Rattle.layout.specs.Places.{Spans, blockPart}
+use Rattle.layout.specs.Pool.{viewOf}
+use Rattle.layout.specs.View.{view-block-at}
 use Rattle.rulebook.specs.State.{Block, blockAt, logAt}
 use Rattle.theorems.specs.Terms.{allTo, versionAt}
 use Rattle.survey.specs.Broken.{getsIn, seeksIn}

@@ -7,7 +7,7 @@ use mathlib.Core.Path.{_≡_}
 use lib.ListN.{length}
 use Rattle.bridge.specs.Asked.{Asked, asked, askedAll}
 use Rattle.bridge.specs.Bridge.{bridge, kept}
-use Rattle.pool.specs.Pool.{openIn}
+use Rattle.layout.specs.Pool.{openIn}
 use Rattle.rulebook.specs.Sizes.{opens}
 use Rattle.survey.specs.Broken.{brokenIn}
 use Rattle.audit.specs.Check.{passes-sound, sound-passes}

@@ -15,10 +15,10 @@ use Rattle.block.specs.Layout.{arena, hasCell, lengthOf, placeOf}
 use Rattle.block.specs.Reads.{entry-at, log-length-at}
 use Rattle.block.specs.Ways.{block-cell}
 use Rattle.block.specs.Words.{entryIn, entryUnder, lengthIn, versionIn}
-use Rattle.pool.specs.Keeps.{block-sized}
-use Rattle.pool.specs.Places.{Spans, blockPart}
-use Rattle.pool.specs.Pool.{viewOf}
-use Rattle.pool.specs.View.{view-block-at, view-block-logs}
+use Rattle.layout.specs.Keeps.{block-sized}
+use Rattle.layout.specs.Places.{Spans, blockPart}
+use Rattle.layout.specs.Pool.{viewOf}
+use Rattle.layout.specs.View.{view-block-at, view-block-logs}
 use Rattle.rulebook.specs.State.{Block, blockAt, logAt}
 use Rattle.rulebook.specs.Tests.{by-test}
 use Rattle.theorems.specs.Terms.{allTo, entries, versionAt}

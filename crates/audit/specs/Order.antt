@@ -6,16 +6,16 @@ use mathlib.Core.List.{List}
 use mathlib.Core.Path.{_∙_, _≡_, ap, refl, sym}
 use native.Mathlib.Omega.{arith}
 use borrow.Author.Tests.{not-false, not-true}
-use Rattle.pool.specs.declared.Header.{Header}
+use Rattle.layout.specs.declared.Header.{Header}
 use Rattle.rulebook.specs.declared.Sizes.{Sizes}
-use Rattle.pool.specs.Header.{headerOf}
-use Rattle.pool.specs.Places.{Spans}
-use Rattle.pool.specs.Sizing.{header-spans}
+use Rattle.layout.specs.Header.{headerOf}
+use Rattle.layout.specs.Places.{Spans}
+use Rattle.layout.specs.Sizing.{header-spans}
 use Rattle.rulebook.specs.Sizes.{if_then_else_}
 use Rattle.survey.specs.Broken.{brokenIn, brokenLogs, brokenOf, brokenRows, brokenUnder, rule2, rule3, rule4, rule5, rule6, rule7}
 use Rattle.survey.specs.Decided.{decides-2, decides-3, decides-6}
 use Rattle.survey.specs.Rules.{Rule2, Rule3, Rule6}
-use Rattle.pool.specs.declared.Header.the-variants as header
+use Rattle.layout.specs.declared.Header.the-variants as header
 
 module _ (d : Sizes) (p : List ℕ) (a : Bool) (e : a ≡ rule2 d p) where
   pub order-two : not a ≡ true → 2 ≡ brokenLogs d p

@@ -17,12 +17,12 @@ use Rattle.rulebook.specs.declared.Reading.{Reading}
 use Rattle.rulebook.specs.declared.Sizes.{Sizes}
 use Rattle.rulebook.specs.declared.Stage.{Stage}
 use Rattle.rulebook.specs.declared.Task.{Task}
-use Rattle.pool.specs.Codes.{codeOf, isCode}
-use Rattle.pool.specs.Places.{Spans, taskPart}
-use Rattle.pool.specs.Pool.{taskIn}
-use Rattle.pool.specs.Ranges.{task-ranged, task-row}
-use Rattle.pool.specs.Rows.{Ranged, mostSteps, standsIn, taskFits, taskRead, taskRowOf, worksIn}
-use Rattle.pool.specs.View.{view-task-at}
+use Rattle.layout.specs.Codes.{codeOf, isCode}
+use Rattle.layout.specs.Places.{Spans, taskPart}
+use Rattle.layout.specs.Pool.{taskIn}
+use Rattle.layout.specs.Ranges.{task-ranged, task-row}
+use Rattle.layout.specs.Rows.{Ranged, mostSteps, standsIn, taskFits, taskRead, taskRowOf, worksIn}
+use Rattle.layout.specs.View.{view-task-at}
 use Rattle.rulebook.specs.Sizes.{mostCells}
 use Rattle.rulebook.specs.Tests.{by-test}
 use Rattle.rules.specs.Paced.{TaskRange, copySteps, digits-few, product-few, steps-few}

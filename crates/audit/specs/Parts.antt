@@ -6,8 +6,8 @@ use mathlib.Core.List.{List}
 use mathlib.Core.Path.{_∙_, _≡_, sym}
 use borrow.Author.Tests.{not-false, not-true}
 use Rattle.rulebook.specs.declared.Sizes.{Sizes}
-use Rattle.pool.specs.Places.{Spans}
-use Rattle.pool.specs.Pool.{viewOf}
+use Rattle.layout.specs.Places.{Spans}
+use Rattle.layout.specs.Pool.{viewOf}
 use Rattle.rules.specs.Paced.{Paced}
 use Rattle.theorems.specs.Terms.{allTo}
 use Rattle.survey.specs.Broken.{factsAt, fillingAt, laidAt, rule7, slotSound, taskSound, writerAt}

@@ -15,11 +15,11 @@ use Rattle.rulebook.specs.declared.Task.{Task}
 use Rattle.block.specs.Sound.{Laid}
 use Rattle.block.specs.Walk.{Decides}
 use Rattle.block.specs.Words.{versionIn}
-use Rattle.pool.specs.Places.{Spans, blockPart, slotPart, taskPart}
-use Rattle.pool.specs.Pool.{slotIn, viewOf}
-use Rattle.pool.specs.Ranges.{slot-row}
-use Rattle.pool.specs.Rows.{slotFits, slotRead, slotRowOf, taskRead}
-use Rattle.pool.specs.View.{view-slot-at}
+use Rattle.layout.specs.Places.{Spans, blockPart, slotPart, taskPart}
+use Rattle.layout.specs.Pool.{slotIn, viewOf}
+use Rattle.layout.specs.Ranges.{slot-row}
+use Rattle.layout.specs.Rows.{slotFits, slotRead, slotRowOf, taskRead}
+use Rattle.layout.specs.View.{view-slot-at}
 use Rattle.rulebook.specs.Sizes.{lastSerial}
 use Rattle.rulebook.specs.State.{isLive, stood, writes}
 use Rattle.rulebook.specs.Tests.{by-test}

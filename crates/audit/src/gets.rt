@@ -8,7 +8,7 @@ ghost use mathlib.Core.Path.{_≡_};
 ghost use Prim.Native.Nat.{_<_, _≤_};
 ghost use lib.ListN.{length};
 ghost use Rattle.theorems.specs.Terms.{allTo};
-ghost use Rattle.pool.specs.Places.{Spans, blockPart};
+ghost use Rattle.layout.specs.Places.{Spans, blockPart};
 ghost use Rattle.survey.specs.Rules.{Readable, shown};
 ghost use Rattle.survey.specs.Broken.{getsIn, seeksIn};
 ghost use Rattle.audit.specs.Gets.{Log, candidateIn, logIn, olderIn};

@@ -9,7 +9,7 @@ ghost use mathlib.Core.Path.{_≡_};
 ghost use Prim.Native.Nat.{_<_, _≤_};
 ghost use Rattle.rulebook.specs.State.{blockAt};
 ghost use Rattle.theorems.specs.Terms.{allTo};
-ghost use Rattle.pool.specs.Places.{Spans, blockPart};
+ghost use Rattle.layout.specs.Places.{Spans, blockPart};
 ghost use Rattle.survey.specs.Rules.{Readable, shown};
 ghost use Rattle.survey.specs.Broken.{allBelow, fillsTo, toAppend, toWrite};
 ghost use Rattle.survey.specs.Tally.{Counts};

@@ -1,6 +1,6 @@
 // The rules in their order.
 use super::seven::rule_seven;
-use pool::Header;
+use layout::Header;
 use rulebook::Sizes;
 use survey::apart::all_apart;
 use survey::handles::all_stand;
@@ -9,7 +9,7 @@ use survey::stands::mark_stood;
 use survey::tally::all_few;
 use survey::walk::logs_hold;
 ghost use mathlib.Core.Path.{_≡_};
-ghost use Rattle.pool.specs.Places.{Spans};
+ghost use Rattle.layout.specs.Places.{Spans};
 ghost use Rattle.survey.specs.Broken.{brokenIn, brokenLogs, brokenRows};
 ghost use Rattle.survey.specs.Rules.{Rule2};
 ghost use Rattle.survey.specs.Stands.{Marked};

@@ -7,7 +7,7 @@ use super::slots::slots_sound;
 use super::writers::writers_hold;
 use rulebook::Sizes;
 ghost use mathlib.Core.Path.{_≡_};
-ghost use Rattle.pool.specs.Places.{Spans};
+ghost use Rattle.layout.specs.Places.{Spans};
 ghost use Rattle.survey.specs.Rules.{Rule2, Rule3, Rule6};
 ghost use Rattle.survey.specs.Broken.{rule7};
 ghost use Rattle.survey.specs.Stands.{Marked};

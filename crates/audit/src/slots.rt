@@ -7,7 +7,7 @@ use survey::stands::stood_on;
 ghost use mathlib.Core.Path.{_≡_};
 ghost use Prim.Native.Nat.{_<_};
 ghost use Rattle.theorems.specs.Terms.{allTo};
-ghost use Rattle.pool.specs.Places.{Spans};
+ghost use Rattle.layout.specs.Places.{Spans};
 ghost use Rattle.survey.specs.Rules.{Rule2};
 ghost use Rattle.survey.specs.Broken.{slotHolds, slotSound, laidAt};
 ghost use Rattle.survey.specs.Stands.{Marked};

@@ -9,7 +9,7 @@ ghost use Prim.Native.Nat.{_<_};
 ghost use Rattle.rulebook.specs.State.{writes};
 ghost use Rattle.theorems.specs.Terms.{allTo};
 ghost use Rattle.rules.specs.Paced.{Paced};
-ghost use Rattle.pool.specs.Places.{Spans};
+ghost use Rattle.layout.specs.Places.{Spans};
 ghost use Rattle.survey.specs.Rules.{shown};
 ghost use Rattle.survey.specs.Broken.{writerApart, notAbove, writerAt};
 

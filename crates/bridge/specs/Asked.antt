@@ -6,9 +6,9 @@ use mathlib.Core.Path.{_≡_}
 use lib.ListN.{length}
 use Rattle.rulebook.specs.declared.Reply.{Reply}
 use Rattle.rulebook.specs.declared.Sizes.{Sizes}
-use Rattle.pool.specs.Calls.{lookCellIn, lookEntryIn, lookLogIn, lookTaskIn, lookVersionIn, releaseIn, reportIn, startGetIn, startNewIn, startPageIn, startSetIn, stepIn}
-use Rattle.pool.specs.Header.{sizesOf}
-use Rattle.pool.specs.Pool.{lieOf, openIn, viewOf}
+use Rattle.layout.specs.Calls.{lookCellIn, lookEntryIn, lookLogIn, lookTaskIn, lookVersionIn, releaseIn, reportIn, startGetIn, startNewIn, startPageIn, startSetIn, stepIn}
+use Rattle.layout.specs.Header.{sizesOf}
+use Rattle.layout.specs.Pool.{lieOf, openIn, viewOf}
 use Rattle.rulebook.specs.Machine.{Call}
 use Rattle.rulebook.specs.Sizes.{if_then_else_, opens}
 use Rattle.rulebook.specs.State.{State}

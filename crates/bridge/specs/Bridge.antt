@@ -7,9 +7,9 @@ use mathlib.Core.Path.{_≡_, ap₂, refl, subst}
 use lib.ListN.{length}
 use Rattle.rulebook.specs.declared.Reply.{Reply}
 use Rattle.rulebook.specs.declared.Sizes.{Sizes}
-use Rattle.pool.specs.Header.{sizesOf}
-use Rattle.pool.specs.Opened.{open-view}
-use Rattle.pool.specs.Pool.{lieOf, openIn, viewOf}
+use Rattle.layout.specs.Header.{sizesOf}
+use Rattle.layout.specs.Opened.{open-view}
+use Rattle.layout.specs.Pool.{lieOf, openIn, viewOf}
 use Rattle.rulebook.specs.History.{run}
 use Rattle.rulebook.specs.Machine.{call}
 use Rattle.rulebook.specs.Sizes.{opens}

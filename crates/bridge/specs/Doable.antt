@@ -20,13 +20,13 @@ use Rattle.rulebook.specs.declared.Status.{Status}
 use Rattle.rulebook.specs.declared.Task.{Task}
 use Rattle.acts.specs.Acted.{acted, seated, touched, turned}
 use Rattle.block.specs.Sound.{Filling, Laid}
-use Rattle.pool.specs.Acts.{Appendable, applied-acted, applied-done, applied-keeps, seated-keeps, slotNamed, taskNamed, touched-keeps, turned-keeps}
-use Rattle.pool.specs.Codes.{codeOf, stage-from, statusCode}
-use Rattle.pool.specs.Keeps.{Keeps, keeps-header, keeps-spans, none, slot-keeps, slot-own, task-keeps, task-own}
-use Rattle.pool.specs.Places.{Spans, blockPart, slotPart, taskPart}
-use Rattle.pool.specs.Pool.{InReach, appliedIn, putSlot, putTask, seatedIn, slotNear, taskNear, touchedIn, turnedIn, viewOf}
-use Rattle.pool.specs.Rows.{slotWords, taskRead, taskWords}
-use Rattle.pool.specs.View.{view-tasks}
+use Rattle.layout.specs.Acts.{Appendable, applied-acted, applied-done, applied-keeps, seated-keeps, slotNamed, taskNamed, touched-keeps, turned-keeps}
+use Rattle.layout.specs.Codes.{codeOf, stage-from, statusCode}
+use Rattle.layout.specs.Keeps.{Keeps, keeps-header, keeps-spans, none, slot-keeps, slot-own, task-keeps, task-own}
+use Rattle.layout.specs.Places.{Spans, blockPart, slotPart, taskPart}
+use Rattle.layout.specs.Pool.{InReach, appliedIn, putSlot, putTask, seatedIn, slotNear, taskNear, touchedIn, turnedIn, viewOf}
+use Rattle.layout.specs.Rows.{slotWords, taskRead, taskWords}
+use Rattle.layout.specs.View.{view-tasks}
 use Rattle.rulebook.specs.Lists.{any-set}
 use Rattle.rulebook.specs.Machine.{Call, call}
 use Rattle.rulebook.specs.State.{Result, State, any, fills, idle, isLive, stood, taskAt, withBlock, withSlot, withTask}

@@ -11,16 +11,16 @@ use borrow.Author.Tests.{eqb-true, leb-false, leb-true}
 use Rattle.acts.specs.declared.Counted.{Counted}
 use Rattle.acts.specs.declared.Found.{Found}
 use Rattle.block.specs.declared.Looked.{Looked}
-use Rattle.pool.specs.declared.Header.{Header}
+use Rattle.layout.specs.declared.Header.{Header}
 use Rattle.rulebook.specs.declared.Reply.{Reply}
 use Rattle.rulebook.specs.declared.Sizes.{Sizes}
 use Rattle.rulebook.specs.declared.Slot.{Slot}
 use Rattle.acts.specs.Looks.{countOf, liveAt, livesAt, plus, reports, seesCell, seesEntry, seesLog, seesReport, seesRow, seesTask, seesUnder, seesVersion, shows, showsEntry, unseen, unseenIn}
 use Rattle.acts.specs.Plans.{foundIf, standerIn}
 use Rattle.acts.specs.Sight.{Sight, sightOf}
-use Rattle.pool.specs.Calls.{lookCellIn, lookEntryIn, lookLogIn, lookTaskIn, lookVersionIn, reportIn, seenIn}
-use Rattle.pool.specs.Header.{headerOf}
-use Rattle.pool.specs.Pool.{sight, viewOf}
+use Rattle.layout.specs.Calls.{lookCellIn, lookEntryIn, lookLogIn, lookTaskIn, lookVersionIn, reportIn, seenIn}
+use Rattle.layout.specs.Header.{headerOf}
+use Rattle.layout.specs.Pool.{sight, viewOf}
 use Rattle.rulebook.specs.History.{one}
 use Rattle.rulebook.specs.Machine.{lookCell, lookEntry, lookLog, lookTask, lookVersion, report}
 use Rattle.rulebook.specs.Sizes.{if_then_else_}

@@ -11,7 +11,7 @@ use Rattle.rulebook.specs.declared.Reply.{Reply}
 use Rattle.rulebook.specs.declared.Sizes.{Sizes}
 use Rattle.rulebook.specs.declared.Stage.{Stage}
 use Rattle.rulebook.specs.declared.Task.{Task}
-use Rattle.pool.specs.Pool.{viewOf}
+use Rattle.layout.specs.Pool.{viewOf}
 use Rattle.rulebook.specs.Answers.{refusal, words}
 use Rattle.rulebook.specs.Machine.{Call, call, lookCell, lookEntry, lookLog, lookTask, lookVersion, release, report}
 use Rattle.rulebook.specs.Sizes.{if_then_else_, opens, slotOf, within}

@@ -10,13 +10,13 @@ use lib.ListN.{getD, length}
 use Rattle.rulebook.specs.declared.Sizes.{Sizes}
 use Rattle.rulebook.specs.declared.Slot.{Slot}
 use Rattle.rulebook.specs.declared.Task.{Task}
-use Rattle.pool.specs.Codes.{codeOf, stageFrom, stageOf}
-use Rattle.pool.specs.Header.{sizesOf}
-use Rattle.pool.specs.Opened.{open-header, open-not, open-reply, open-rows, open-view}
-use Rattle.pool.specs.Parts.{getD-part}
-use Rattle.pool.specs.Places.{slotPart, taskPart}
-use Rattle.pool.specs.Pool.{lieOf, openIn, viewOf}
-use Rattle.pool.specs.Rows.{taskRead}
+use Rattle.layout.specs.Codes.{codeOf, stageFrom, stageOf}
+use Rattle.layout.specs.Header.{sizesOf}
+use Rattle.layout.specs.Opened.{open-header, open-not, open-reply, open-rows, open-view}
+use Rattle.layout.specs.Parts.{getD-part}
+use Rattle.layout.specs.Places.{slotPart, taskPart}
+use Rattle.layout.specs.Pool.{lieOf, openIn, viewOf}
+use Rattle.layout.specs.Rows.{taskRead}
 use Rattle.rulebook.specs.Lists.{any-replicate, replicate-get}
 use Rattle.rulebook.specs.Sizes.{controlWords, if_then_else_, opens}
 use Rattle.rulebook.specs.Starts.{Lie, opened, opening}

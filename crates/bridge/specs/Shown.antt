@@ -11,23 +11,23 @@ use Rattle.rulebook.specs.declared.Status.{Status}
 use Rattle.acts.specs.Sight.{Sight, sightOf}
 use Rattle.block.specs.Reads.{cell-reads, entry-reads, length-reads, version-reads}
 use Rattle.block.specs.Sound.{blockOf}
-use Rattle.pool.specs.Codes.{isCode}
-use Rattle.pool.specs.Header.{headerOf}
-use Rattle.pool.specs.Places.{Spans}
-use Rattle.pool.specs.Pool.{cellSeen, entrySeen, lengthSeen, sight, slotSeen, taskSeen, versionSeen, viewOf}
-use Rattle.pool.specs.Rows.{slotSeenOf, taskRead, taskSeenOf}
-use Rattle.pool.specs.Sizing.{header-spans}
-use Rattle.pool.specs.View.{view-block-at, view-blocks, view-slot-at, view-slots, view-task-at, view-tasks}
+use Rattle.layout.specs.Codes.{isCode}
+use Rattle.layout.specs.Header.{headerOf}
+use Rattle.layout.specs.Places.{Spans}
+use Rattle.layout.specs.Pool.{cellSeen, entrySeen, lengthSeen, sight, slotSeen, taskSeen, versionSeen, viewOf}
+use Rattle.layout.specs.Rows.{slotSeenOf, taskRead, taskSeenOf}
+use Rattle.layout.specs.Sizing.{header-spans}
+use Rattle.layout.specs.View.{view-block-at, view-blocks, view-slot-at, view-slots, view-task-at, view-tasks}
 use Rattle.rulebook.specs.Lists.{listTo-length}
 use Rattle.rulebook.specs.State.{Block, State, blockAt, cellAt, entryAt, isLive, logAt, slotAt, stood, taskAt}
 use Rattle.theorems.specs.Invariant.Shape.{Shape, every-listTo}
 use Rattle.bridge.specs.Sound.{Sound}
-use Rattle.pool.specs.Keeps.{block-sized}
+use Rattle.layout.specs.Keeps.{block-sized}
 use Rattle.acts.specs.declared.SlotRow.the-variants as slotrow
 use Rattle.acts.specs.declared.TaskRow.the-variants as taskrow
 use Rattle.block.specs.declared.Looked.the-variants as looked
 use Rattle.block.specs.declared.Probed.the-variants as probed
-use Rattle.pool.specs.declared.Header.the-variants as header
+use Rattle.layout.specs.declared.Header.the-variants as header
 use Rattle.rulebook.specs.declared.Status.the-variants as status
 
 -- when a sight shows a state: no row is bad, nor V or a cell of any block; nor a log of a block on which a live handle stands

@@ -9,15 +9,15 @@ use Rattle.rulebook.specs.declared.Sizes.{Sizes}
 use Rattle.rulebook.specs.declared.Stage.{Stage}
 use Rattle.rulebook.specs.declared.Stage.the-variants.{Append, Copying, Exchange, FillCopy, FillNew, Getting, Idle, Paging, Put, Read, TakeCopy, TakeNew, Write}
 use Rattle.block.specs.Sound.{Filling, Laid}
-use Rattle.pool.specs.Codes.{codeOf}
-use Rattle.pool.specs.Header.{headerOf}
-use Rattle.pool.specs.Pool.{viewOf}
-use Rattle.pool.specs.Places.{blockPart, slotPart, taskPart}
-use Rattle.pool.specs.Rows.{taskRead}
+use Rattle.layout.specs.Codes.{codeOf}
+use Rattle.layout.specs.Header.{headerOf}
+use Rattle.layout.specs.Pool.{viewOf}
+use Rattle.layout.specs.Places.{blockPart, slotPart, taskPart}
+use Rattle.layout.specs.Rows.{taskRead}
 use Rattle.rulebook.specs.State.{fills, stood, taskAt}
 use Rattle.rules.specs.Paced.{Paced}
 use Rattle.rules.specs.Rules.{Rules}
-use Rattle.pool.specs.declared.Header.the-variants as header
+use Rattle.layout.specs.declared.Header.the-variants as header
 
 -- up to which cell a task at stage g, with cell i in hand, has filled its block
 abbrev pub filledTo : Stage → ℕ → ℕ → ℕ

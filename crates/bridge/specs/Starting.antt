@@ -12,7 +12,7 @@ use Rattle.acts.specs.declared.Found.{Found}
 use Rattle.acts.specs.declared.Live.{Live}
 use Rattle.acts.specs.declared.SlotChange.{SlotChange}
 use Rattle.acts.specs.declared.TaskChange.{TaskChange}
-use Rattle.pool.specs.declared.Header.{Header}
+use Rattle.layout.specs.declared.Header.{Header}
 use Rattle.rulebook.specs.declared.Reply.{Reply}
 use Rattle.rulebook.specs.declared.Sizes.{Sizes}
 use Rattle.rulebook.specs.declared.Slot.{Slot}
@@ -20,9 +20,9 @@ use Rattle.rulebook.specs.declared.Task.{Task}
 use Rattle.acts.specs.Acted.{acted}
 use Rattle.acts.specs.Plans.{answers, ends, getOn, goes, liveIn, liveRow, newOn, pageOn, planGet, planNew, planPage, planRelease, planSet, readyIn, refused, releaseAt, releaseOn, reservesFor, setAt, setOn, userIn, vacantIn}
 use Rattle.acts.specs.Sight.{Sight, sightOf}
-use Rattle.pool.specs.Calls.{calledIn, releaseIn, startGetIn, startNewIn, startPageIn, startSetIn}
-use Rattle.pool.specs.Header.{headerOf}
-use Rattle.pool.specs.Pool.{appliedIn, sight, slotNear, taskNear, touchNear, touchedIn, touchedNear, viewOf}
+use Rattle.layout.specs.Calls.{calledIn, releaseIn, startGetIn, startNewIn, startPageIn, startSetIn}
+use Rattle.layout.specs.Header.{headerOf}
+use Rattle.layout.specs.Pool.{appliedIn, sight, slotNear, taskNear, touchNear, touchedIn, touchedNear, viewOf}
 use Rattle.rulebook.specs.Machine.{Call, Get, New, Page, Release, Set, call, release}
 use Rattle.rulebook.specs.Sizes.{if_then_else_, serialOf, slotOf}
 use Rattle.rulebook.specs.Starts.{startGet, startNew, startPage, startSet}

@@ -19,9 +19,9 @@ use Rattle.acts.specs.Sight.{Sight, sightOf}
 use Rattle.acts.specs.Ways.{after-small}
 use Rattle.block.specs.Fills.{fill-keeps, fill-next}
 use Rattle.block.specs.Sound.{Filling, Laid}
-use Rattle.pool.specs.Calls.{stepIn}
-use Rattle.pool.specs.Places.{blockPart}
-use Rattle.pool.specs.Pool.{slotNear, touchNear, touchedIn, touchedNear, viewOf}
+use Rattle.layout.specs.Calls.{stepIn}
+use Rattle.layout.specs.Places.{blockPart}
+use Rattle.layout.specs.Pool.{slotNear, touchNear, touchedIn, touchedNear, viewOf}
 use Rattle.rulebook.specs.Machine.{Step, call}
 use Rattle.rulebook.specs.State.{State, blockAt, fills, freeBlock, idle, names, taskAt}
 use Rattle.rulebook.specs.Steps.{answer, moved, step}

@@ -16,12 +16,12 @@ use Rattle.block.specs.Layout.{Sized}
 use Rattle.block.specs.Sound.{Filling, Laid, blockOf, entriesIn}
 use Rattle.block.specs.Words.{appendIn, exchangeIn, fillIn, takeIn, writeIn}
 use Rattle.block.specs.Writes.{append-long, exchange-first, exchange-long, fill-done, fill-long, take-done, take-long, write-done, write-long}
-use Rattle.pool.specs.Acts.{Appendable, blockNamed, done-own}
-use Rattle.pool.specs.Does.{touched-near}
-use Rattle.pool.specs.Keeps.{block-sized}
-use Rattle.pool.specs.Places.{Spans, blockPart}
-use Rattle.pool.specs.Pool.{putDone, raised, touchNear, touchedIn, touchedNear, viewOf}
-use Rattle.pool.specs.View.{view-block-at}
+use Rattle.layout.specs.Acts.{Appendable, blockNamed, done-own}
+use Rattle.layout.specs.Does.{touched-near}
+use Rattle.layout.specs.Keeps.{block-sized}
+use Rattle.layout.specs.Places.{Spans, blockPart}
+use Rattle.layout.specs.Pool.{putDone, raised, touchNear, touchedIn, touchedNear, viewOf}
+use Rattle.layout.specs.View.{view-block-at}
 use Rattle.rulebook.specs.State.{Block, blockAt, logAt}
 use Rattle.theorems.specs.Prices.Budget.{passed, passed-next, passed-total, sumTo}
 use Rattle.bridge.specs.Doable.{no-append, wordsAfter}

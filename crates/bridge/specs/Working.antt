@@ -20,9 +20,9 @@ use Rattle.acts.specs.Sight.{Sight, sightOf}
 use Rattle.block.specs.Fills.{filled-laid}
 use Rattle.block.specs.Sound.{Filling, Laid}
 use Rattle.block.specs.Words.{fillIn}
-use Rattle.pool.specs.Acts.{taskNamed, touched-keeps}
-use Rattle.pool.specs.Places.{Spans, blockPart}
-use Rattle.pool.specs.Pool.{slotNear, taskNear, viewOf}
+use Rattle.layout.specs.Acts.{taskNamed, touched-keeps}
+use Rattle.layout.specs.Places.{Spans, blockPart}
+use Rattle.layout.specs.Pool.{slotNear, taskNear, viewOf}
 use Rattle.rulebook.specs.Sizes.{lastSerial}
 use Rattle.rulebook.specs.State.{State, fills, freeBlock, handOf, idle, names, slotAt, stood, taskAt}
 use Rattle.rulebook.specs.Steps.{aimed, moved}

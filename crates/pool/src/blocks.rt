@@ -16,8 +16,8 @@ ghost use Rattle.block.specs.Layout.{bumpOf};
 ghost use Rattle.block.specs.Sound.{Laid};
 ghost use Rattle.block.specs.Walk.{Decides};
 ghost use Rattle.acts.specs.declared.Touch.the-variants as touch;
-ghost use Rattle.pool.specs.Places.{Spans, Small, Place, blockPart};
-ghost use Rattle.pool.specs.Pool.{cellSeen, entrySeen, lengthSeen, raised, touchedIn, versionSeen};
+ghost use Rattle.layout.specs.Places.{Spans, Small, Place, blockPart};
+ghost use Rattle.layout.specs.Pool.{cellSeen, entrySeen, lengthSeen, raised, touchedIn, versionSeen};
 
 // The words from start to end.
 pub struct Extent {

@@ -6,7 +6,7 @@ use rulebook::Status;
 ghost use mathlib.Core.Path.{_≡_};
 ghost use Prim.Native.Nat.{_<_};
 ghost use Rattle.rulebook.specs.Answers.{readingCode};
-ghost use Rattle.pool.specs.Codes.{codeOf, isCode, readingFrom, makingFrom, settingFrom, stageFrom, stageCoded, statusCode, statusFrom};
+ghost use Rattle.layout.specs.Codes.{codeOf, isCode, readingFrom, makingFrom, settingFrom, stageFrom, stageCoded, statusCode, statusFrom};
 
 fn reading_code(r: Reading) -> u32
     ensures { λ c. ⌜ (c ≡ readingCode r) × (c < 7) ⌝ }

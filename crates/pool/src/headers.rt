@@ -1,16 +1,16 @@
 // The pool's first words, and the sizes that they give.
 use super::FORM;
 use super::HEADER;
-use super::Header;
 use super::MARK;
 use super::MOST_BLOCKS;
 use super::block_words;
 use super::control_words;
 use super::wide;
+use layout::Header;
 use rulebook::Sizes;
 ghost use mathlib.Core.Path.{_≡_};
 ghost use Prim.Native.Nat.{_<_, _≤_};
-ghost use Rattle.pool.specs.Header.{limited, sizesIn, headerOf};
+ghost use Rattle.layout.specs.Header.{limited, sizesIn, headerOf};
 
 const MOST_CELLS: u32 = 4096;
 

@@ -21,7 +21,6 @@ pub use blocks::write;
 pub use codes::is_code;
 pub use headers::header_of;
 pub use opening::open;
-use rulebook::Sizes;
 pub use slots::load_slot;
 pub use slots::see_slot;
 pub use slots::slot_at;
@@ -50,12 +49,6 @@ const TASK_ROW: u32 = 32;
 
 // The most blocks that a store has.
 const MOST_BLOCKS: u32 = 256;
-
-// What the header says: nothing that describes the pool, or the sizes of a store.
-pub enum Header {
-    Bad,
-    Good(Sizes),
-}
 
 fn wide(x: u32) -> usize
     ensures { λ r. ⌜ (r ≡ x) × (r < 4294967296) ⌝ }

@@ -1,17 +1,17 @@
 // Opening a store: the control area is written, and the blocks stay as they lie.
 use super::FORM;
-use super::Header;
 use super::MARK;
 use super::control_words;
 use super::headers::sizes;
+use layout::Header;
 use rulebook::Reply;
 ghost use mathlib.Core.Path.{_≡_};
 ghost use mathlib.Core.List.{_++_};
 ghost use Prim.Native.Nat.{_-_, _≤_, _<_};
 ghost use lib.ListN.{length, drop, replicate, set};
 ghost use Rattle.rulebook.specs.Sizes.{headerWords};
-ghost use Rattle.pool.specs.Header.{headerFields, headed};
-ghost use Rattle.pool.specs.Pool.{openIn};
+ghost use Rattle.layout.specs.Header.{headerFields, headed};
+ghost use Rattle.layout.specs.Pool.{openIn};
 
 // The test keeps the compiler from calling memset: the archive needs no other library.
 fn zero(part: &mut [u32], i: usize)

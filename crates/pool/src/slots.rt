@@ -11,9 +11,9 @@ ghost use mathlib.Core.Path.{_≡_};
 ghost use Prim.Native.Nat.{_+_, _<_};
 ghost use lib.ListN.{length};
 ghost use Rattle.rulebook.specs.Sizes.{mostHandles, handleRow};
-ghost use Rattle.pool.specs.Places.{Spans, slotStart, slotPart};
-ghost use Rattle.pool.specs.Rows.{slotWords, slotRead, slotRowOf, slotSeenOf};
-ghost use Rattle.pool.specs.Pool.{slotIn, slotSeen, putSlot};
+ghost use Rattle.layout.specs.Places.{Spans, slotStart, slotPart};
+ghost use Rattle.layout.specs.Rows.{slotWords, slotRead, slotRowOf, slotSeenOf};
+ghost use Rattle.layout.specs.Pool.{slotIn, slotSeen, putSlot};
 
 const SLOT_WORDS: usize = HANDLE_ROW as usize;
 

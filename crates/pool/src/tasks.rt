@@ -17,9 +17,9 @@ ghost use mathlib.Core.List.{_++_};
 ghost use Prim.Native.Nat.{_+_, _<_, _≤_};
 ghost use lib.ListN.{length, drop, getD};
 ghost use Rattle.rulebook.specs.Sizes.{mostHandles, mostTasks, taskRow};
-ghost use Rattle.pool.specs.Places.{Spans, taskStart, taskPart};
-ghost use Rattle.pool.specs.Rows.{bitOf, taskWords, taskFields, taskWith, taskRead, standsIn, worksIn, taskRowOf, taskSeenOf, stageSeen};
-ghost use Rattle.pool.specs.Pool.{taskIn, taskSeen, putTask};
+ghost use Rattle.layout.specs.Places.{Spans, taskStart, taskPart};
+ghost use Rattle.layout.specs.Rows.{bitOf, taskWords, taskFields, taskWith, taskRead, standsIn, worksIn, taskRowOf, taskSeenOf, stageSeen};
+ghost use Rattle.layout.specs.Pool.{taskIn, taskSeen, putTask};
 
 const TASK_WORDS: usize = TASK_ROW as usize;
 

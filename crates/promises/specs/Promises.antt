@@ -8,10 +8,10 @@ use lib.ListN.{getD, length, replicate, take}
 use Rattle.audit.specs.Check.{FirstBroken}
 use Rattle.bridge.specs.Asked.{Asked, Open, Step, callOf}
 use Rattle.bridge.specs.Sound.{Sound}
-use Rattle.pool.specs.declared.Header.the-variants as header
-use Rattle.pool.specs.Header.{headerOf, sizesOf}
-use Rattle.pool.specs.Places.{blockBase}
-use Rattle.pool.specs.Pool.{lieOf, viewOf}
+use Rattle.layout.specs.declared.Header.the-variants as header
+use Rattle.layout.specs.Header.{headerOf, sizesOf}
+use Rattle.layout.specs.Places.{blockBase}
+use Rattle.layout.specs.Pool.{lieOf, viewOf}
 use Rattle.rulebook.specs.Answers.{operation}
 use Rattle.rulebook.specs.declared.Sizes.{Sizes}
 use Rattle.rulebook.specs.History.{Ended, Past, Value, fresh, past, run, setsBound, tableOf, workCode}

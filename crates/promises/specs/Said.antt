@@ -7,11 +7,11 @@ use lib.Dec.{eqb, ltb}
 use lib.ListN.{getD, length, take}
 use Rattle.survey.specs.Broken.{brokenIn}
 use Rattle.bridge.specs.Asked.{Asked, Get, LookCell, LookEntry, LookLog, LookTask, LookVersion, New, Open, Page, Release, Report, Set, Step, callOf}
-use Rattle.pool.specs.Calls.{lookCellIn, lookEntryIn, lookLogIn, lookTaskIn, lookVersionIn, releaseIn, reportIn, startGetIn, startNewIn, startPageIn, startSetIn, stepIn}
-use Rattle.pool.specs.declared.Header.{Header}
-use Rattle.pool.specs.declared.Header.the-variants as header
-use Rattle.pool.specs.Header.{headerOf, sizesIn}
-use Rattle.pool.specs.Pool.{openIn, viewOf}
+use Rattle.layout.specs.Calls.{lookCellIn, lookEntryIn, lookLogIn, lookTaskIn, lookVersionIn, releaseIn, reportIn, startGetIn, startNewIn, startPageIn, startSetIn, stepIn}
+use Rattle.layout.specs.declared.Header.{Header}
+use Rattle.layout.specs.declared.Header.the-variants as header
+use Rattle.layout.specs.Header.{headerOf, sizesIn}
+use Rattle.layout.specs.Pool.{openIn, viewOf}
 use Rattle.rulebook.specs.Answers.{refusal, word}
 use Rattle.rulebook.specs.Array.{newTable, setTable}
 use Rattle.rulebook.specs.declared.Reply.{Reply}

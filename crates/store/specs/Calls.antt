@@ -13,21 +13,21 @@ use Rattle.acts.specs.declared.Said.{Said}
 use Rattle.acts.specs.declared.TaskRow.{TaskRow}
 use Rattle.block.specs.declared.Looked.{Looked}
 use Rattle.block.specs.declared.Probed.{Probed}
-use Rattle.pool.specs.declared.Header.{Header}
+use Rattle.layout.specs.declared.Header.{Header}
 use Rattle.rulebook.specs.declared.Reply.{Reply}
 use Rattle.rulebook.specs.declared.Sizes.{Sizes}
 use Rattle.acts.specs.Looks.{countOf, livesAt, reports, seesCell, seesEntry, seesLog, seesReport, seesRow, seesTask, seesUnder, seesVersion, shows, showsEntry, unseen, unseenIn}
 use Rattle.acts.specs.Plans.{standerIn}
 use Rattle.acts.specs.Said.{saidOf, toldIn}
 use Rattle.acts.specs.Sight.{Sight}
-use Rattle.pool.specs.Calls.{calledIn, seenIn}
-use Rattle.pool.specs.Header.{headerOf}
-use Rattle.pool.specs.Places.{Spans}
-use Rattle.pool.specs.Pool.{appliedIn, cellSeen, entrySeen, lengthSeen, sight, taskSeen, versionSeen}
-use Rattle.pool.specs.Sizing.{header-spans}
+use Rattle.layout.specs.Calls.{calledIn, seenIn}
+use Rattle.layout.specs.Header.{headerOf}
+use Rattle.layout.specs.Places.{Spans}
+use Rattle.layout.specs.Pool.{appliedIn, cellSeen, entrySeen, lengthSeen, sight, taskSeen, versionSeen}
+use Rattle.layout.specs.Sizing.{header-spans}
 use Rattle.rulebook.specs.Sizes.{if_then_else_}
 use Rattle.rulebook.specs.declared.Reply.the-variants as reply
-use Rattle.pool.specs.declared.Header.the-variants as header
+use Rattle.layout.specs.declared.Header.the-variants as header
 use Rattle.block.specs.declared.Looked.the-variants as looked
 
 -- ---- looks

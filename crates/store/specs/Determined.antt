@@ -4,8 +4,8 @@ use Prim.Native.Nat.{ℕ}
 use mathlib.Core.List.{List}
 use mathlib.Core.Path.{_∙_, _≡_, ap, sym}
 use Rattle.acts.specs.Said.{toldIn}
-use Rattle.pool.specs.Calls.{lookCellIn, lookEntryIn, lookLogIn, lookTaskIn, lookVersionIn, releaseIn, reportIn, startGetIn, startNewIn, startPageIn, startSetIn, stepIn}
-use Rattle.pool.specs.Pool.{openIn}
+use Rattle.layout.specs.Calls.{lookCellIn, lookEntryIn, lookLogIn, lookTaskIn, lookVersionIn, releaseIn, reportIn, startGetIn, startNewIn, startPageIn, startSetIn, stepIn}
+use Rattle.layout.specs.Pool.{openIn}
 use Rattle.acts.specs.declared.Said.{Said}
 use Rattle.rulebook.specs.declared.Reply.{Reply}
 

@@ -15,7 +15,7 @@ use Rattle.rulebook.specs.declared.Sizes.{Sizes}
 use Rattle.rulebook.specs.declared.Slot.{Slot}
 use Rattle.acts.specs.Plans.{deadOf, earlierOf, inUseOf, liveIn, liveRow, planRelease, refused, releaseAt, releaseOn, userIn}
 use Rattle.acts.specs.Said.{saidOf, toldIn}
-use Rattle.pool.specs.Pool.{actedIn, appliedIn, putSlot, seatedIn, sight, slotSeen, touchNear, touchedIn, touchedNear, turnedIn}
+use Rattle.layout.specs.Pool.{actedIn, appliedIn, putSlot, seatedIn, sight, slotSeen, touchNear, touchedIn, touchedNear, turnedIn}
 use Rattle.rulebook.specs.Sizes.{serialOf, slotOf}
 use Rattle.rulebook.specs.State.{freed, isLive}
 use Rattle.rulebook.specs.Tests.{by-test}

@@ -4,18 +4,18 @@ mod starts;
 
 use acts::Said;
 use acts::words::refuses;
+use layout::Header;
 pub use looks::look_cell;
 pub use looks::look_entry;
 pub use looks::look_log;
 pub use looks::look_task;
 pub use looks::look_version;
 pub use looks::report;
-use pool::Header;
 use rulebook::Reply;
 ghost use mathlib.Core.Path.{_≡_};
 ghost use Rattle.acts.specs.Said.{toldIn};
-ghost use Rattle.pool.specs.Pool.{openIn};
-ghost use Rattle.pool.specs.Calls.{startNewIn, startGetIn, startSetIn, startPageIn, stepIn, releaseIn};
+ghost use Rattle.layout.specs.Pool.{openIn};
+ghost use Rattle.layout.specs.Calls.{startNewIn, startGetIn, startSetIn, startPageIn, stepIn, releaseIn};
 
 // A store of so many cells, handles and tasks in the lent pool.
 pub fn open(words: &mut [u32], cells: u32, handles: u32, tasks: u32) -> Reply

@@ -5,7 +5,7 @@ use acts::searches::shows;
 use acts::searches::shows_entry;
 use acts::searches::unseen;
 use block::Looked;
-use pool::Header;
+use layout::Header;
 use rulebook::Reply;
 use rulebook::Sizes;
 use work::searches::live_handles;
@@ -14,9 +14,9 @@ use work::searches::stood_blocks;
 ghost use mathlib.Core.Path.{_≡_};
 ghost use Prim.Native.Nat.{_<_};
 ghost use Rattle.acts.specs.Looks.{unseenIn, seesUnder};
-ghost use Rattle.pool.specs.Places.{Spans};
-ghost use Rattle.pool.specs.Pool.{sight};
-ghost use Rattle.pool.specs.Calls.{lookVersionIn, lookCellIn, lookLogIn, lookEntryIn, lookTaskIn, reportIn};
+ghost use Rattle.layout.specs.Places.{Spans};
+ghost use Rattle.layout.specs.Pool.{sight};
+ghost use Rattle.layout.specs.Calls.{lookVersionIn, lookCellIn, lookLogIn, lookEntryIn, lookTaskIn, reportIn};
 
 // The refusal of a look at block b; 0 where a live handle stands on it.
 fn hidden(words: &[u32], d: Sizes, b: u32) -> u32

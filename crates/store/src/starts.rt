@@ -23,8 +23,8 @@ ghost use mathlib.Core.Path.{_≡_};
 ghost use Prim.Native.Nat.{_%_, _<_};
 ghost use Rattle.acts.specs.Plans.{getOn, liveIn, newOn, pageOn, planGet, planNew, planPage, planRelease, planSet, readyIn, reservesFor, setAt, setOn, vacantIn};
 ghost use Rattle.acts.specs.Said.{toldIn};
-ghost use Rattle.pool.specs.Places.{Spans};
-ghost use Rattle.pool.specs.Pool.{appliedIn, sight, slotSeen};
+ghost use Rattle.layout.specs.Places.{Spans};
+ghost use Rattle.layout.specs.Pool.{appliedIn, sight, slotSeen};
 ghost use Rattle.store.specs.Releases.{OnBelow, freedOn};
 
 // ---- what is asked first

@@ -13,8 +13,8 @@ use borrow.Author.Tests.{eqb-false, eqb-true, ltb-false, ltb-true, ne-eqb, not-f
 use Rattle.rulebook.specs.declared.Sizes.{Sizes}
 use Rattle.rulebook.specs.declared.Slot.{Slot}
 use Rattle.block.specs.Walk.{Decides}
-use Rattle.pool.specs.Places.{Spans, slotPart}
-use Rattle.pool.specs.Rows.{slotRead}
+use Rattle.layout.specs.Places.{Spans, slotPart}
+use Rattle.layout.specs.Rows.{slotRead}
 use Rattle.rulebook.specs.Sizes.{if_then_else_}
 use Rattle.rulebook.specs.Tests.{by-test}
 use Rattle.survey.specs.Broken.{rule5}

@@ -5,7 +5,7 @@ use mathlib.Core.Bool.{Bool, _&&_, false, not, true}
 use mathlib.Core.List.{List}
 use lib.Dec.{eqb, leb, ltb}
 use lib.ListN.{getD, length}
-use Rattle.pool.specs.declared.Header.{Header}
+use Rattle.layout.specs.declared.Header.{Header}
 use Rattle.rulebook.specs.declared.Entry.{Entry}
 use Rattle.rulebook.specs.declared.Hand.{Hand}
 use Rattle.rulebook.specs.declared.Reading.{Reading}
@@ -17,10 +17,10 @@ use Rattle.rulebook.specs.declared.Task.{Task}
 use Rattle.block.specs.Layout.{arena, bumpOf, isBlock, lengthOf, placeOf, spaceOf}
 use Rattle.block.specs.Sound.{sumTo}
 use Rattle.bridge.specs.Sound.{filledTo}
-use Rattle.pool.specs.Codes.{codeOf}
-use Rattle.pool.specs.Header.{headerOf}
-use Rattle.pool.specs.Places.{blockPart, slotPart, taskPart}
-use Rattle.pool.specs.Rows.{taskRead}
+use Rattle.layout.specs.Codes.{codeOf}
+use Rattle.layout.specs.Header.{headerOf}
+use Rattle.layout.specs.Places.{blockPart, slotPart, taskPart}
+use Rattle.layout.specs.Rows.{taskRead}
 use Rattle.rulebook.specs.Sizes.{if_then_else_, lastSerial}
 use Rattle.rulebook.specs.State.{Block, State, blockAt, fills, isLive, logAt, names, reserves, slotAt, stood, writes}
 use Rattle.rulebook.specs.Steps.{hereOf}
@@ -32,7 +32,7 @@ use Rattle.survey.specs.Rules.{shown, slot, task, under}
 use Rattle.rulebook.specs.declared.Stage.the-variants as stage
 use Rattle.rulebook.specs.declared.Reading.the-variants as reading
 use Rattle.rulebook.specs.declared.Status.the-variants as status
-use Rattle.pool.specs.declared.Header.the-variants as header
+use Rattle.layout.specs.declared.Header.the-variants as header
 
 abbrev pub isReserved : Status → Bool
 isReserved status.Free = false

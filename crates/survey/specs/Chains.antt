@@ -14,8 +14,8 @@ use borrow.Author.Tests.{eq-eqb, eqb-false, eqb-true, not-false, not-true}
 use Rattle.rulebook.specs.declared.Sizes.{Sizes}
 use Rattle.rulebook.specs.declared.Slot.{Slot}
 use Rattle.rulebook.specs.declared.Status.{Status}
-use Rattle.pool.specs.Places.{Spans, slotPart}
-use Rattle.pool.specs.Rows.{slotRead}
+use Rattle.layout.specs.Places.{Spans, slotPart}
+use Rattle.layout.specs.Rows.{slotRead}
 use Rattle.rulebook.specs.Sizes.{if_then_else_, mostBlocks, mostHandles}
 use Rattle.rulebook.specs.State.{isLive}
 use Rattle.rulebook.specs.Tests.{and-both, by-test}

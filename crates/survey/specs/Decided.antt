@@ -16,11 +16,11 @@ use Rattle.rulebook.specs.declared.Task.{Task}
 use Rattle.block.specs.Sound.{Filling, Laid}
 use Rattle.block.specs.Walk.{Decides}
 use Rattle.bridge.specs.Sound.{filledTo}
-use Rattle.pool.specs.Codes.{codeOf}
-use Rattle.pool.specs.Places.{Spans, blockPart, slotPart, taskPart}
-use Rattle.pool.specs.Pool.{viewOf}
-use Rattle.pool.specs.Rows.{taskRead}
-use Rattle.pool.specs.View.{view-slots, view-tasks}
+use Rattle.layout.specs.Codes.{codeOf}
+use Rattle.layout.specs.Places.{Spans, blockPart, slotPart, taskPart}
+use Rattle.layout.specs.Pool.{viewOf}
+use Rattle.layout.specs.Rows.{taskRead}
+use Rattle.layout.specs.View.{view-slots, view-tasks}
 use Rattle.rulebook.specs.State.{blockAt, fills, freed, idle, isLive, names, reserves, stood, writes}
 use Rattle.rulebook.specs.Tests.{by-test}
 use Rattle.rules.specs.Paced.{SlotRange, TaskRange}

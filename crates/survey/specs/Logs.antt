@@ -15,8 +15,8 @@ use Rattle.rulebook.specs.declared.Slot.{Slot}
 use Rattle.block.specs.Layout.{arena, entryOf, lengthOf, placeOf, versionOf}
 use Rattle.block.specs.Reads.{entry-at, log-length-at, version-at}
 use Rattle.block.specs.Sound.{blockOf}
-use Rattle.pool.specs.Places.{blockPart}
-use Rattle.pool.specs.View.{view-block-at}
+use Rattle.layout.specs.Places.{blockPart}
+use Rattle.layout.specs.View.{view-block-at}
 use Rattle.rulebook.specs.Lists.{listTo-length}
 use Rattle.rulebook.specs.State.{Block, blockAt, freed, isLive, logAt, stood}
 use Rattle.rulebook.specs.Tests.{and-both, by-test}

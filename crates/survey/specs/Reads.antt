@@ -14,10 +14,10 @@ use Rattle.rulebook.specs.declared.Entry.{Entry}
 use Rattle.rulebook.specs.declared.Sizes.{Sizes}
 use Rattle.rulebook.specs.declared.Slot.{Slot}
 use Rattle.block.specs.Words.{entryIn, lengthIn, versionIn}
-use Rattle.pool.specs.Places.{blockPart, slotPart}
-use Rattle.pool.specs.Pool.{entrySeen, lengthSeen, versionSeen}
-use Rattle.pool.specs.Rows.{slotRead}
-use Rattle.pool.specs.View.{view-slot-at, view-slots}
+use Rattle.layout.specs.Places.{blockPart, slotPart}
+use Rattle.layout.specs.Pool.{entrySeen, lengthSeen, versionSeen}
+use Rattle.layout.specs.Rows.{slotRead}
+use Rattle.layout.specs.View.{view-slot-at, view-slots}
 use Rattle.rulebook.specs.State.{freed, isLive, stood}
 use Rattle.rulebook.specs.Steps.{probed}
 use Rattle.rulebook.specs.Tests.{by-test}

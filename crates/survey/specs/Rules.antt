@@ -11,16 +11,16 @@ use Rattle.rulebook.specs.declared.Task.{Task}
 use Rattle.block.specs.Layout.{arena, lengthOf, placeOf}
 use Rattle.block.specs.Sound.{Filling, Laid}
 use Rattle.bridge.specs.Sound.{filledTo}
-use Rattle.pool.specs.Codes.{codeOf}
-use Rattle.pool.specs.Header.{headerOf}
-use Rattle.pool.specs.Places.{blockPart, slotPart, taskPart}
-use Rattle.pool.specs.Pool.{viewOf}
-use Rattle.pool.specs.Rows.{taskRead}
+use Rattle.layout.specs.Codes.{codeOf}
+use Rattle.layout.specs.Header.{headerOf}
+use Rattle.layout.specs.Places.{blockPart, slotPart, taskPart}
+use Rattle.layout.specs.Pool.{viewOf}
+use Rattle.layout.specs.Rows.{taskRead}
 use Rattle.rulebook.specs.State.{Block, State, blockAt, fills, logAt, names, reserves, slotAt, stood, taskAt, writes}
 use Rattle.rules.specs.Paced.{Paced}
 use Rattle.rules.specs.Rules.{TaskRule}
 use Rattle.theorems.specs.Terms.{entries, versionAt}
-use Rattle.pool.specs.declared.Header.the-variants as header
+use Rattle.layout.specs.declared.Header.the-variants as header
 use Rattle.rulebook.specs.declared.Status.the-variants as status
 
 -- 1: refusal 1 isn't due

@@ -12,8 +12,8 @@ use lib.Seq.{getD-set-other, getD-set-same}
 use borrow.Author.Tests.{eqb-false, eqb-true, ne-eqb, not-false, not-true}
 use Rattle.rulebook.specs.declared.Sizes.{Sizes}
 use Rattle.rulebook.specs.declared.Slot.{Slot}
-use Rattle.pool.specs.Places.{Spans, slotPart}
-use Rattle.pool.specs.Rows.{slotRead}
+use Rattle.layout.specs.Places.{Spans, slotPart}
+use Rattle.layout.specs.Rows.{slotRead}
 use Rattle.rulebook.specs.Sizes.{mostBlocks}
 use Rattle.rulebook.specs.State.{isLive, stood}
 use Rattle.rulebook.specs.Tests.{by-test}

@@ -16,10 +16,10 @@ use Rattle.block.specs.Layout.{entryOf, lengthOf, placeOf}
 use Rattle.block.specs.Sound.{blockOf, logOf, sumTo, viewOf}
 use Rattle.block.specs.Sums.{sum-same}
 use Rattle.block.specs.Ways.{block-cell}
-use Rattle.pool.specs.Keeps.{block-sized}
+use Rattle.layout.specs.Keeps.{block-sized}
 use Rattle.block.specs.Words.{lengthIn, versionIn}
-use Rattle.pool.specs.Places.{Spans, blockPart}
-use Rattle.pool.specs.View.{view-block-at}
+use Rattle.layout.specs.Places.{Spans, blockPart}
+use Rattle.layout.specs.View.{view-block-at}
 use Rattle.rulebook.specs.Lists.{listTo-length, listTo-snoc}
 use Rattle.rulebook.specs.Sizes.{mostCells}
 use Rattle.rulebook.specs.State.{Block, blockAt, listTo, stood}

@@ -14,8 +14,8 @@ use Rattle.block.specs.Layout.{arena, hasCell, lengthOf, placeOf, versionOf}
 use Rattle.block.specs.Marks.{Walked, walk-row, walk-start, walk-step}
 use Rattle.block.specs.Ways.{block-cell, sized-block}
 use Rattle.block.specs.Words.{entryIn, entryUnder, lengthIn, versionIn}
-use Rattle.pool.specs.Keeps.{block-sized}
-use Rattle.pool.specs.Places.{Spans, blockPart}
+use Rattle.layout.specs.Keeps.{block-sized}
+use Rattle.layout.specs.Places.{Spans, blockPart}
 use Rattle.rulebook.specs.State.{stood}
 use Rattle.rulebook.specs.Tests.{by-test}
 use Rattle.survey.specs.Broken.{rule3}

@@ -13,11 +13,11 @@ use Rattle.rulebook.specs.declared.Slot.{Slot}
 use Rattle.rulebook.specs.declared.Task.{Task}
 use Rattle.block.specs.Reads.{version-at}
 use Rattle.block.specs.Ways.{sized-block}
-use Rattle.pool.specs.Keeps.{block-sized}
+use Rattle.layout.specs.Keeps.{block-sized}
 use Rattle.block.specs.Words.{versionIn}
-use Rattle.pool.specs.Places.{Spans, blockPart, slotPart, taskPart}
-use Rattle.pool.specs.Rows.{slotRead, taskRead}
-use Rattle.pool.specs.View.{view-block-at, view-slot-at, view-task-at}
+use Rattle.layout.specs.Places.{Spans, blockPart, slotPart, taskPart}
+use Rattle.layout.specs.Rows.{slotRead, taskRead}
+use Rattle.layout.specs.View.{view-block-at, view-slot-at, view-task-at}
 use Rattle.rulebook.specs.State.{Block, blockAt, fills, isLive, names, reserves}
 use Rattle.rulebook.specs.Tests.{by-test}
 use Rattle.theorems.specs.Terms.{allTo}

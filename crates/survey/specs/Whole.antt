@@ -7,19 +7,19 @@ use mathlib.Core.Path.{_∙_, _≡_, refl, sym}
 use native.Mathlib.Omega.{arith}
 use lib.Dec.{eqb}
 use borrow.Author.Tests.{eq-eqb}
-use Rattle.pool.specs.declared.Header.{Header}
+use Rattle.layout.specs.declared.Header.{Header}
 use Rattle.rulebook.specs.declared.Sizes.{Sizes}
 use Rattle.rulebook.specs.declared.Slot.{Slot}
 use Rattle.block.specs.Chunks.{space-least}
 use Rattle.block.specs.Layout.{bumpOf, lengthOf, placeOf}
 use Rattle.block.specs.Sound.{Laid}
 use Rattle.bridge.specs.Sound.{Sound}
-use Rattle.pool.specs.Header.{headerOf}
-use Rattle.pool.specs.Pool.{viewOf}
+use Rattle.layout.specs.Header.{headerOf}
+use Rattle.layout.specs.Pool.{viewOf}
 use Rattle.rulebook.specs.Lists.{any-some}
 use Rattle.rulebook.specs.State.{freed, isLive, stood}
 use Rattle.survey.specs.Rules.{Lives, Readable, Rule1, Rule2, Rule3, Rule4, Rule5, Rule6, Rule7, shown, slot}
-use Rattle.pool.specs.declared.Header.the-variants as header
+use Rattle.layout.specs.declared.Header.the-variants as header
 
 -- rules 2 to 7 hold of a pool whose header gives the sizes d
 pub record Rest (d : Sizes) (p : List ℕ) : Type 0 where

@@ -4,7 +4,7 @@ use acts::tasks::is_live;
 use rulebook::Sizes;
 ghost use mathlib.Core.Path.{_≡_};
 ghost use Prim.Native.Nat.{_+_, _<_};
-ghost use Rattle.pool.specs.Places.{Spans};
+ghost use Rattle.layout.specs.Places.{Spans};
 ghost use Rattle.survey.specs.Rules.{Rule2};
 ghost use Rattle.survey.specs.Broken.{rule5};
 ghost use Rattle.survey.specs.Chains.{Chained, ChainedTo};

@@ -4,7 +4,7 @@ use acts::tasks::is_live;
 use rulebook::Sizes;
 ghost use mathlib.Core.Path.{_≡_};
 ghost use Prim.Native.Nat.{_<_};
-ghost use Rattle.pool.specs.Places.{Spans};
+ghost use Rattle.layout.specs.Places.{Spans};
 ghost use Rattle.survey.specs.Broken.{rule2At, rule2};
 
 // The handle in slot j, if it is live, stands on a block of the pool, within that block's versions.

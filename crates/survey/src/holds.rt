@@ -11,7 +11,7 @@ ghost use mathlib.Core.Path.{_≡_};
 ghost use Prim.Native.Nat.{_<_};
 ghost use Rattle.rulebook.specs.State.{reserves};
 ghost use Rattle.theorems.specs.Terms.{allTo};
-ghost use Rattle.pool.specs.Places.{Spans};
+ghost use Rattle.layout.specs.Places.{Spans};
 ghost use Rattle.survey.specs.Decide.{someTo};
 ghost use Rattle.survey.specs.Broken.{isReserved, standsAs, namedAt, freshApart, freshAt, targetApart, offTarget, targetAt, rule6At, ownsAt, ownerAt, rule6};
 

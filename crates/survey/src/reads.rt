@@ -5,7 +5,7 @@ use rulebook::Sizes;
 ghost use mathlib.Core.Path.{_≡_};
 ghost use Prim.Native.Nat.{_<_};
 ghost use Rattle.block.specs.Words.{versionIn, lengthIn, entryIn};
-ghost use Rattle.pool.specs.Places.{Spans, blockPart};
+ghost use Rattle.layout.specs.Places.{Spans, blockPart};
 ghost use Rattle.survey.specs.Reads.{versionShown, lengthShown, stampShown};
 
 // A version that no entry has.

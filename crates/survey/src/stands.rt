@@ -4,7 +4,7 @@ use rulebook::Sizes;
 ghost use mathlib.Core.Path.{_≡_};
 ghost use Prim.Native.Nat.{_+_, _<_};
 ghost use lib.ListN.{length};
-ghost use Rattle.pool.specs.Places.{Spans};
+ghost use Rattle.layout.specs.Places.{Spans};
 ghost use Rattle.survey.specs.Stands.{Marked, MarkedTo, marked};
 
 const MOST_BLOCKS: u32 = 256;

@@ -7,7 +7,7 @@ ghost use mathlib.Core.Path.{_≡_};
 ghost use Prim.Native.Nat.{_<_};
 ghost use Rattle.rulebook.specs.State.{blockAt};
 ghost use Rattle.theorems.specs.Terms.{entries};
-ghost use Rattle.pool.specs.Places.{Spans};
+ghost use Rattle.layout.specs.Places.{Spans};
 ghost use Rattle.survey.specs.Rules.{Rule2, Rule3, shown};
 ghost use Rattle.survey.specs.Broken.{rule4At, rule4};
 ghost use Rattle.survey.specs.Stands.{Marked};

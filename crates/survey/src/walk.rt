@@ -5,7 +5,7 @@ use super::reads::version_of;
 use super::stands::stood_on;
 use rulebook::Sizes;
 ghost use mathlib.Core.Path.{_≡_};
-ghost use Rattle.pool.specs.Places.{Spans};
+ghost use Rattle.layout.specs.Places.{Spans};
 ghost use Rattle.survey.specs.Rules.{Rule2};
 ghost use Rattle.survey.specs.Broken.{rule3};
 ghost use Rattle.survey.specs.Stands.{Marked};

@@ -4,8 +4,8 @@ use Prim.Native.Nat.{ℕ}
 use mathlib.Core.List.{List}
 use mathlib.Core.Path.{_≡_}
 use Rattle.survey.specs.Broken.{brokenIn}
-use Rattle.pool.specs.Calls.{lookCellIn, lookEntryIn, lookLogIn, lookTaskIn, lookVersionIn, releaseIn, reportIn, startGetIn, startNewIn, startPageIn, startSetIn, stepIn}
-use Rattle.pool.specs.Pool.{openIn}
+use Rattle.layout.specs.Calls.{lookCellIn, lookEntryIn, lookLogIn, lookTaskIn, lookVersionIn, releaseIn, reportIn, startGetIn, startNewIn, startPageIn, startSetIn, stepIn}
+use Rattle.layout.specs.Pool.{openIn}
 use Rattle.store.specs.Determined.{both}
 use Rattle.winchclover.specs.Answered.{answeredIn, shownIn}
 use Rattle.rulebook.specs.declared.Reply.the-variants as reply

@@ -6,8 +6,8 @@ use answers::tell;
 use rulebook::Reply;
 ghost use mathlib.Core.Path.{_≡_};
 ghost use Rattle.survey.specs.Broken.{brokenIn};
-ghost use Rattle.pool.specs.Pool.{openIn};
-ghost use Rattle.pool.specs.Calls.{startNewIn, startGetIn, startSetIn, startPageIn, stepIn, releaseIn, lookVersionIn, lookCellIn, lookLogIn, lookEntryIn, lookTaskIn, reportIn};
+ghost use Rattle.layout.specs.Pool.{openIn};
+ghost use Rattle.layout.specs.Calls.{startNewIn, startGetIn, startSetIn, startPageIn, stepIn, releaseIn, lookVersionIn, lookCellIn, lookLogIn, lookEntryIn, lookTaskIn, reportIn};
 ghost use Rattle.rulebook.specs.declared.Reply.the-variants as reply;
 ghost use Rattle.winchclover.specs.Answered.{answeredIn, shownIn};
 

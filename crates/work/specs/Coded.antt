@@ -14,8 +14,8 @@ use Rattle.acts.specs.declared.Said.{Said}
 use Rattle.acts.specs.declared.StageRow.the-variants as stagerow
 use Rattle.acts.specs.StepPlans.{planAt, stageFor}
 use Rattle.acts.specs.Said.{saidOf}
-use Rattle.pool.specs.Codes.{codeOf, isCode, makingFrom, readingFrom, settingFrom, stageCoded, stageFrom, stageOf}
-use Rattle.pool.specs.Coding.{coded-none}
+use Rattle.layout.specs.Codes.{codeOf, isCode, makingFrom, readingFrom, settingFrom, stageCoded, stageFrom, stageOf}
+use Rattle.layout.specs.Coding.{coded-none}
 use Rattle.rulebook.specs.declared.Reading.{Reading}
 use Rattle.rulebook.specs.declared.Reading.the-variants as reading
 use Rattle.rulebook.specs.declared.Reply.the-variants as reply

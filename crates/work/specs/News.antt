@@ -15,7 +15,7 @@ use Rattle.rulebook.specs.declared.Task.{Task}
 use Rattle.acts.specs.Plans.{after, freeIn, goes}
 use Rattle.acts.specs.StepPlans.{fillsNew, planAt, puts, takes}
 use Rattle.acts.specs.Said.{saidOf}
-use Rattle.pool.specs.Pool.{putTask, sight, touchedIn}
+use Rattle.layout.specs.Pool.{putTask, sight, touchedIn}
 use Rattle.rulebook.specs.State.{handOf}
 use Rattle.rulebook.specs.Steps.{aimed, moved}
 use Rattle.work.specs.Stepped.{Held, aimedAt, does, does-refused, filledLast, filledNext, filling, givenUp, held-left, lastCell, moreCells, stepAt, takenAt, taskUp, tookAt, turnedTo}

@@ -23,9 +23,9 @@ use Rattle.rulebook.specs.declared.Task.{Task}
 use Rattle.acts.specs.Plans.{after, ends, firstOf, foundIf, freeIn, getOn, goes, liveIn, newOn, orElse, pageOn, planGet, planNew, planPage, planRelease, planSet, readyIn, refused, releaseAt, releaseOn, reservesFor, setAt, setOn, ticked, userIn, vacant, vacantAt, vacantIn}
 use Rattle.acts.specs.StepPlans.{appendsEntry, copyGoes, exchangesOn, fillsCopy, fillsNew, finishes, getGoes, givesUp, pageGoes, pageSettles, planAt, planRow, planStep, puts, readIn, readsOld, takes, writesNew}
 use Rattle.acts.specs.Sight.{Sight}
-use Rattle.pool.specs.Places.{Spans, slotPart}
-use Rattle.pool.specs.Pool.{InReach, sight, slotSeen, slotNear, taskSeen, taskNear}
-use Rattle.pool.specs.Rows.{slotSeenOf}
+use Rattle.layout.specs.Places.{Spans, slotPart}
+use Rattle.layout.specs.Pool.{InReach, sight, slotSeen, slotNear, taskSeen, taskNear}
+use Rattle.layout.specs.Rows.{slotSeenOf}
 use Rattle.rulebook.specs.Sizes.{if_then_else_, lastSerial, slotOf}
 use Rattle.rulebook.specs.State.{idle, isFree}
 use Rattle.rulebook.specs.Tests.{by-test, if-case}

@@ -16,8 +16,8 @@ use Rattle.rulebook.specs.declared.Sizes.{Sizes}
 use Rattle.acts.specs.Looks.{countOf, liveAt, livesAt, plus}
 use Rattle.acts.specs.Plans.{filler, fillerIn, fillsAt, firstOf, freeAt, freeIn, holderIn, namesAt, naming, orElse, standerIn, standing, standsAt, unheld, userIn, vacant, vacantAt, vacantIn}
 use Rattle.acts.specs.Rows.{CountBelow, isNone}
-use Rattle.pool.specs.Places.{Spans}
-use Rattle.pool.specs.Pool.{sight, slotSeen, taskSeen}
+use Rattle.layout.specs.Places.{Spans}
+use Rattle.layout.specs.Pool.{sight, slotSeen, taskSeen}
 use Rattle.rulebook.specs.Tests.{by-test}
 use Rattle.acts.specs.declared.Found.the-variants as found
 use Rattle.acts.specs.declared.Counted.the-variants as counted

@@ -21,10 +21,10 @@ use Rattle.acts.specs.Plans.{after, freeIn, goes, refused, ticked}
 use Rattle.acts.specs.StepPlans.{appendsEntry, copyGoes, exchangesOn, fillsCopy, fillsNew, finishes, getGoes, givesUp, goesOn, pageGoes, pageSettles, planAt, planRow, planStep, puts, readIn, readsOld, takes, writesNew}
 use Rattle.acts.specs.Said.{saidOf}
 use Rattle.acts.specs.Sight.{Sight}
-use Rattle.pool.specs.Places.{Spans, taskPart}
-use Rattle.pool.specs.Pool.{sight, taskSeen}
-use Rattle.pool.specs.Codes.{isCode, stageFrom}
-use Rattle.pool.specs.Rows.{taskRead, taskSeenOf}
+use Rattle.layout.specs.Places.{Spans, taskPart}
+use Rattle.layout.specs.Pool.{sight, taskSeen}
+use Rattle.layout.specs.Codes.{isCode, stageFrom}
+use Rattle.layout.specs.Rows.{taskRead, taskSeenOf}
 use Rattle.rulebook.specs.Sizes.{if_then_else_}
 use Rattle.rulebook.specs.State.{handOf}
 use Rattle.rulebook.specs.Steps.{moved}

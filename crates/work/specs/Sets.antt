@@ -13,7 +13,7 @@ use Rattle.rulebook.specs.declared.Task.{Task}
 use Rattle.acts.specs.Plans.{after, goes, refused}
 use Rattle.acts.specs.StepPlans.{afterExchange, afterFill, appendsEntry, exchangesOn, fillsCopy, planAt, readsOld}
 use Rattle.acts.specs.Said.{saidOf}
-use Rattle.pool.specs.Pool.{cellSeen, sight, touchedIn, versionSeen}
+use Rattle.layout.specs.Pool.{cellSeen, sight, touchedIn, versionSeen}
 use Rattle.rulebook.specs.State.{handOf}
 use Rattle.rulebook.specs.Steps.{answer, guessed, moved}
 use Rattle.work.specs.Stepped.{Held, copiedOn, does, does-goes, does-refused, exchangedOn, firstSet, held-left, stepAt, taskUp, turnedTo}

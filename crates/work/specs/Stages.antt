@@ -18,9 +18,9 @@ use Rattle.rulebook.specs.declared.Task.{Task}
 use Rattle.acts.specs.Plans.{after, goes, refused, ticked}
 use Rattle.acts.specs.StepPlans.{copyGoes, getGoes, goesOn, pageGoes, pageSettles, planAt, readEntry, readGuess, readIn, readLength, readVersion, stageFor}
 use Rattle.acts.specs.Said.{saidOf}
-use Rattle.pool.specs.Places.{taskPart}
-use Rattle.pool.specs.Pool.{cellSeen, entrySeen, lengthSeen, putTask, sight, versionSeen}
-use Rattle.pool.specs.Rows.{taskWith}
+use Rattle.layout.specs.Places.{taskPart}
+use Rattle.layout.specs.Pool.{cellSeen, entrySeen, lengthSeen, putTask, sight, versionSeen}
+use Rattle.layout.specs.Rows.{taskWith}
 use Rattle.rulebook.specs.Sizes.{if_then_else_}
 use Rattle.rulebook.specs.State.{handOf, idle}
 use Rattle.rulebook.specs.Steps.{answer, guessed, middle, moved, probedAt, searching}

@@ -19,12 +19,12 @@ use Rattle.rulebook.specs.declared.Task.{Task}
 use Rattle.acts.specs.Plans.{after, ends, freeIn, goes, refused, ticked}
 use Rattle.acts.specs.StepPlans.{afterBounds, afterExchange, afterFill, finishes, givesUp, goesOn, planAt, takes}
 use Rattle.acts.specs.Said.{saidOf, toldIn}
-use Rattle.pool.specs.Acts.{applied-answers, applied-done, applied-not, touched-keeps}
-use Rattle.pool.specs.Does.{untouched}
-use Rattle.pool.specs.Keeps.{keeps-spans, none}
-use Rattle.pool.specs.Places.{Spans, taskPart}
-use Rattle.pool.specs.Pool.{actedIn, appliedIn, putSlot, putTask, seatedIn, sight, slotSeen, touchNear, touchedIn, touchedNear, turnedIn}
-use Rattle.pool.specs.Rows.{taskWith}
+use Rattle.layout.specs.Acts.{applied-answers, applied-done, applied-not, touched-keeps}
+use Rattle.layout.specs.Does.{untouched}
+use Rattle.layout.specs.Keeps.{keeps-spans, none}
+use Rattle.layout.specs.Places.{Spans, taskPart}
+use Rattle.layout.specs.Pool.{actedIn, appliedIn, putSlot, putTask, seatedIn, sight, slotSeen, touchNear, touchedIn, touchedNear, turnedIn}
+use Rattle.layout.specs.Rows.{taskWith}
 use Rattle.rulebook.specs.Sizes.{if_then_else_, lastSerial, publicNumber}
 use Rattle.rulebook.specs.State.{handOf, idle}
 use Rattle.rulebook.specs.Steps.{aimed, moved}

@@ -19,9 +19,9 @@ use Rattle.rulebook.specs.declared.Task.{Task}
 use Rattle.acts.specs.Plans.{after, ends, goes, refused}
 use Rattle.acts.specs.StepPlans.{finishes, givesUp, planAt, writesNew}
 use Rattle.acts.specs.Said.{saidOf}
-use Rattle.pool.specs.Keeps.{keeps-spans, slot-keeps}
-use Rattle.pool.specs.Places.{Spans}
-use Rattle.pool.specs.Pool.{putSlot, putTask, sight, slotSeen, touchedIn}
+use Rattle.layout.specs.Keeps.{keeps-spans, slot-keeps}
+use Rattle.layout.specs.Places.{Spans}
+use Rattle.layout.specs.Pool.{putSlot, putTask, sight, slotSeen, touchedIn}
 use Rattle.rulebook.specs.Sizes.{lastSerial, publicNumber}
 use Rattle.rulebook.specs.State.{freed, idle}
 use Rattle.rulebook.specs.Steps.{moved}

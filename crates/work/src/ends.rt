@@ -8,8 +8,8 @@ use rulebook::Sizes;
 use rulebook::Slot;
 use rulebook::Status;
 ghost use mathlib.Core.Path.{_≡_};
-ghost use Rattle.pool.specs.Places.{Spans};
-ghost use Rattle.pool.specs.Pool.{slotSeen};
+ghost use Rattle.layout.specs.Places.{Spans};
+ghost use Rattle.layout.specs.Pool.{slotSeen};
 ghost use Rattle.work.specs.Stepped.{Fresh, madeAt, nextSerial};
 
 // The serial that a reserved slot gets; 0 where it is not there, its row is bad or it is spent.

@@ -14,8 +14,8 @@ ghost use mathlib.Core.Path.{_≡_};
 ghost use Prim.Native.Nat.{_-_, _≤_, _<_};
 ghost use Rattle.acts.specs.Plans.{firstOf, standsAt, vacantAt, namesAt, fillsAt, freeAt, standerIn, vacantIn, userIn, fillerIn, holderIn, freeIn};
 ghost use Rattle.acts.specs.Looks.{countOf, livesAt};
-ghost use Rattle.pool.specs.Places.{Spans};
-ghost use Rattle.pool.specs.Pool.{sight};
+ghost use Rattle.layout.specs.Places.{Spans};
+ghost use Rattle.layout.specs.Pool.{sight};
 
 // ---- one row
 

@@ -19,8 +19,8 @@ use rulebook::Stage;
 ghost use mathlib.Core.Path.{_≡_};
 ghost use Rattle.acts.specs.StepPlans.{planStep};
 ghost use Rattle.acts.specs.Said.{toldIn};
-ghost use Rattle.pool.specs.Places.{Spans};
-ghost use Rattle.pool.specs.Pool.{appliedIn, sight};
+ghost use Rattle.layout.specs.Places.{Spans};
+ghost use Rattle.layout.specs.Pool.{appliedIn, sight};
 ghost use Rattle.work.specs.Seen.{readerOf, stepCoded, takerOf};
 ghost use Rattle.work.specs.Stepped.{Held};
 

@@ -11,7 +11,7 @@ use rulebook::Stage;
 use rulebook::Task;
 ghost use mathlib.Core.Path.{_≡_};
 ghost use Rattle.rulebook.specs.State.{idle};
-ghost use Rattle.pool.specs.Pool.{putSlot, putTask};
+ghost use Rattle.layout.specs.Pool.{putSlot, putTask};
 ghost use Rattle.work.specs.Stepped.{Held, Seat, taskUp, turnedTo};
 
 // Task t with this step counted. Its stage is known where it is called, and not read again.

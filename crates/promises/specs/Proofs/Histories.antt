@@ -8,8 +8,8 @@ use lib.ListN.{take}
 use Rattle.bridge.specs.Asked.{Asked, Bridged, Get, LookCell, LookEntry, LookLog, LookTask, LookVersion, New, Open, Page, Release, Report, Set, Step, asked, askedAll, callOf, callsOf, sizesAfter}
 use Rattle.bridge.specs.Bridge.{bridge}
 use Rattle.bridge.specs.Sound.{Sound}
-use Rattle.pool.specs.declared.Header.{Header}
-use Rattle.pool.specs.Pool.{viewOf}
+use Rattle.layout.specs.declared.Header.{Header}
+use Rattle.layout.specs.Pool.{viewOf}
 use Rattle.rulebook.specs.Answers.{refusal, word}
 use Rattle.rulebook.specs.declared.Reply.{Reply}
 use Rattle.rulebook.specs.declared.Sizes.{Sizes}

@@ -14,12 +14,12 @@ use Rattle.bridge.specs.Asked.{Asked, Get, LookCell, LookEntry, LookLog, LookTa
 use Rattle.bridge.specs.Bridge.{bridge}
 use Rattle.bridge.specs.Shown.{sound-shape}
 use Rattle.bridge.specs.Sound.{Sound}
-use Rattle.pool.specs.Calls.{calledIn, lookCellIn, lookEntryIn, lookLogIn, lookTaskIn, lookVersionIn, releaseIn, reportIn, seenIn, startGetIn, startNewIn, startPageIn, startSetIn, stepIn}
-use Rattle.pool.specs.declared.Header.{Header}
-use Rattle.pool.specs.declared.Header.the-variants as header
-use Rattle.pool.specs.Header.{headerOf}
-use Rattle.pool.specs.Opened.{open-not, open-reply}
-use Rattle.pool.specs.Pool.{openIn, viewOf}
+use Rattle.layout.specs.Calls.{calledIn, lookCellIn, lookEntryIn, lookLogIn, lookTaskIn, lookVersionIn, releaseIn, reportIn, seenIn, startGetIn, startNewIn, startPageIn, startSetIn, stepIn}
+use Rattle.layout.specs.declared.Header.{Header}
+use Rattle.layout.specs.declared.Header.the-variants as header
+use Rattle.layout.specs.Header.{headerOf}
+use Rattle.layout.specs.Opened.{open-not, open-reply}
+use Rattle.layout.specs.Pool.{openIn, viewOf}
 use Rattle.rulebook.specs.Answers.{refusal}
 use Rattle.rulebook.specs.declared.Reply.{Reply}
 use Rattle.rulebook.specs.declared.Sizes.{Sizes}

@@ -15,15 +15,15 @@ use Rattle.acts.specs.Plans.{planGet, planNew, planPage, planRelease, planSet, 
 use Rattle.acts.specs.StepPlans.{planStep}
 use Rattle.acts.specs.Sight.{Sight}
 use Rattle.bridge.specs.Asked.{Get, LookCell, LookEntry, LookLog, LookTask, LookVersion, New, Open, Page, Release, Report, Set, Step, asked}
-use Rattle.pool.specs.Acts.{applied-answers, applied-done, applied-keeps, applied-not}
-use Rattle.pool.specs.Calls.{calledIn, releaseIn, startGetIn, startNewIn, startPageIn, startSetIn, stepIn}
-use Rattle.pool.specs.declared.Header.{Header}
-use Rattle.pool.specs.declared.Header.the-variants as header
-use Rattle.pool.specs.Header.{headerOf, sizesIn, sizesOf}
-use Rattle.pool.specs.Opened.{open-length, open-not, open-reply, open-rest}
-use Rattle.pool.specs.Places.{Spans, blockBase}
-use Rattle.pool.specs.Pool.{InReach, appliedIn, openIn, sight, touchedIn}
-use Rattle.pool.specs.Sizing.{header-spans}
+use Rattle.layout.specs.Acts.{applied-answers, applied-done, applied-keeps, applied-not}
+use Rattle.layout.specs.Calls.{calledIn, releaseIn, startGetIn, startNewIn, startPageIn, startSetIn, stepIn}
+use Rattle.layout.specs.declared.Header.{Header}
+use Rattle.layout.specs.declared.Header.the-variants as header
+use Rattle.layout.specs.Header.{headerOf, sizesIn, sizesOf}
+use Rattle.layout.specs.Opened.{open-length, open-not, open-reply, open-rest}
+use Rattle.layout.specs.Places.{Spans, blockBase}
+use Rattle.layout.specs.Pool.{InReach, appliedIn, openIn, sight, touchedIn}
+use Rattle.layout.specs.Sizing.{header-spans}
 use Rattle.rulebook.specs.Answers.{refusal, word}
 use Rattle.rulebook.specs.declared.Reply.{Reply}
 use Rattle.rulebook.specs.declared.Reply.the-variants as reply

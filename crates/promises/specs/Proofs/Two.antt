@@ -10,9 +10,9 @@ use Rattle.bridge.specs.Asked.{Asked, Bridged, Open, asked, askedAll, callsOf, 
 use Rattle.bridge.specs.Bridge.{bridge-all}
 use Rattle.bridge.specs.Opening.{open-sound}
 use Rattle.bridge.specs.Sound.{Sound}
-use Rattle.pool.specs.Header.{sizesOf}
-use Rattle.pool.specs.Opened.{open-not, open-view}
-use Rattle.pool.specs.Pool.{lieOf, openIn, viewOf}
+use Rattle.layout.specs.Header.{sizesOf}
+use Rattle.layout.specs.Opened.{open-not, open-view}
+use Rattle.layout.specs.Pool.{lieOf, openIn, viewOf}
 use Rattle.rulebook.specs.Answers.{refusal}
 use Rattle.rulebook.specs.declared.Reply.{Reply}
 use Rattle.rulebook.specs.declared.Sizes.{Sizes}

@@ -10,12 +10,12 @@ use lib.ListN.{getD, length, length-replicate, replicate, take}
 use Rattle.bridge.specs.Asked.{Asked, Get, LookTask, New, Open, Set, Step, callOf}
 use Rattle.bridge.specs.Sound.{Sound}
 use Rattle.block.specs.Layout.{cellIx}
-use Rattle.pool.specs.declared.Header.{Header}
-use Rattle.pool.specs.declared.Header.the-variants as header
-use Rattle.pool.specs.Header.{headerOf, sizesOf}
-use Rattle.pool.specs.Parts.{part}
-use Rattle.pool.specs.Places.{blockPart}
-use Rattle.pool.specs.Pool.{lieOf}
+use Rattle.layout.specs.declared.Header.{Header}
+use Rattle.layout.specs.declared.Header.the-variants as header
+use Rattle.layout.specs.Header.{headerOf, sizesOf}
+use Rattle.layout.specs.Parts.{part}
+use Rattle.layout.specs.Places.{blockPart}
+use Rattle.layout.specs.Pool.{lieOf}
 use Rattle.rulebook.specs.Answers.{stageCode}
 use Rattle.rulebook.specs.declared.Sizes.{Sizes}
 use Rattle.rulebook.specs.History.{Ended, run}

@@ -1,5 +1,5 @@
 use Rattle.store.specs.Calls.{calls}
-use Rattle.pool.specs.Calls.{releaseIn}
+use Rattle.layout.specs.Calls.{releaseIn}
 use borrow.Author.Needs.{needs}
 use Rattle.store.proofs.release.Statement.{statement}
 use Rattle.store.proofs.release.Tie as tie

@@ -1,5 +1,5 @@
 use Rattle.store.specs.Calls.{calls}
-use Rattle.pool.specs.Calls.{startGetIn}
+use Rattle.layout.specs.Calls.{startGetIn}
 use borrow.Author.Needs.{needs}
 use Rattle.store.proofs.start_get.Statement.{statement}
 use Rattle.store.proofs.start_get.Tie as tie

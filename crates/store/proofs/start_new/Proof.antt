@@ -1,5 +1,5 @@
 use Rattle.store.specs.Calls.{calls}
-use Rattle.pool.specs.Calls.{startNewIn}
+use Rattle.layout.specs.Calls.{startNewIn}
 use borrow.Author.Needs.{needs}
 use Rattle.store.proofs.start_new.Statement.{statement}
 use Rattle.store.proofs.start_new.Tie as tie

@@ -1,5 +1,5 @@
 use Rattle.store.specs.Calls.{calls}
-use Rattle.pool.specs.Calls.{startPageIn}
+use Rattle.layout.specs.Calls.{startPageIn}
 use borrow.Author.Needs.{needs}
 use Rattle.store.proofs.start_page.Statement.{statement}
 use Rattle.store.proofs.start_page.Tie as tie

@@ -1,5 +1,5 @@
 use Rattle.store.specs.Calls.{calls}
-use Rattle.pool.specs.Calls.{startSetIn}
+use Rattle.layout.specs.Calls.{startSetIn}
 use borrow.Author.Needs.{needs}
 use Rattle.store.proofs.start_set.Statement.{statement}
 use Rattle.store.proofs.start_set.Tie as tie

@@ -1,5 +1,5 @@
 use Rattle.store.specs.Calls.{calls}
-use Rattle.pool.specs.Calls.{stepIn}
+use Rattle.layout.specs.Calls.{stepIn}
 use borrow.Author.Needs.{needs}
 use Rattle.store.proofs.step.Statement.{statement}
 use Rattle.store.proofs.step.Tie as tie

@@ -1,6 +1,6 @@
-use Rattle.pool.specs.Lends.{lends}
-use Rattle.pool.specs.Parts.{part}
-use Rattle.pool.specs.Places.{blockPart}
+use Rattle.layout.specs.Lends.{lends}
+use Rattle.layout.specs.Parts.{part}
+use Rattle.layout.specs.Places.{blockPart}
 use borrow.Author.Needs.{needs}
 use Rattle.pool.proofs.blocks.bump.Statement.{statement}
 use Rattle.pool.proofs.blocks.bump.Tie as tie

@@ -1,5 +1,5 @@
-use Rattle.pool.specs.Lends.{lends, looks}
-use Rattle.pool.specs.Parts.{part}
+use Rattle.layout.specs.Lends.{lends, looks}
+use Rattle.layout.specs.Parts.{part}
 use borrow.Author.Needs.{needs}
 use Rattle.pool.proofs.blocks.entry.Statement.{statement}
 use Rattle.pool.proofs.blocks.entry.Tie as tie

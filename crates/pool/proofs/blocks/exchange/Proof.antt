@@ -1,5 +1,5 @@
-use Rattle.pool.specs.Lends.{lends, touches}
-use Rattle.pool.specs.Parts.{part, splice}
+use Rattle.layout.specs.Lends.{lends, touches}
+use Rattle.layout.specs.Parts.{part, splice}
 use borrow.Author.Needs.{needs}
 use Rattle.pool.proofs.blocks.exchange.Statement.{statement}
 use Rattle.pool.proofs.blocks.exchange.Tie as tie

@@ -1,4 +1,4 @@
-use Rattle.pool.specs.Lends.{extents}
+use Rattle.layout.specs.Lends.{extents}
 use borrow.Author.Needs.{needs}
 use Rattle.pool.proofs.blocks.extent_of.Statement.{statement}
 use Rattle.pool.proofs.blocks.extent_of.Tie as tie

@@ -1,4 +1,4 @@
-use Rattle.pool.specs.Lends.{nears}
+use Rattle.layout.specs.Lends.{nears}
 use borrow.Author.Needs.{needs}
 use Rattle.pool.proofs.blocks.near.Statement.{statement}
 use Rattle.pool.proofs.blocks.near.Tie as tie

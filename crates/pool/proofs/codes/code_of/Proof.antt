@@ -1,4 +1,4 @@
-use Rattle.pool.specs.Codes.{codeOf, arms}
+use Rattle.layout.specs.Codes.{codeOf, arms}
 use borrow.Author.Needs.{needs}
 use Rattle.pool.proofs.codes.code_of.Statement.{statement}
 use Rattle.pool.proofs.codes.code_of.Tie as tie

@@ -1,4 +1,4 @@
-use Rattle.pool.specs.Ways.{seeing}
+use Rattle.layout.specs.Ways.{seeing}
 use borrow.Author.Needs.{needs}
 use Rattle.pool.proofs.codes.is_code.Statement.{statement}
 use Rattle.pool.proofs.codes.is_code.Tie as tie

@@ -1,5 +1,5 @@
-use Rattle.pool.specs.Ways.{tests}
-use Rattle.pool.specs.Codes.{makingFrom}
+use Rattle.layout.specs.Ways.{tests}
+use Rattle.layout.specs.Codes.{makingFrom}
 use borrow.Author.Needs.{needs}
 use Rattle.pool.proofs.codes.making_from.Statement.{statement}
 use Rattle.pool.proofs.codes.making_from.Tie as tie

@@ -1,5 +1,5 @@
-use Rattle.pool.specs.Ways.{tests}
-use Rattle.pool.specs.Codes.{readingFrom, arms}
+use Rattle.layout.specs.Ways.{tests}
+use Rattle.layout.specs.Codes.{readingFrom, arms}
 use borrow.Author.Needs.{needs}
 use Rattle.pool.proofs.codes.reading_from.Statement.{statement}
 use Rattle.pool.proofs.codes.reading_from.Tie as tie

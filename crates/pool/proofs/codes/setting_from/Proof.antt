@@ -1,5 +1,5 @@
-use Rattle.pool.specs.Ways.{tests}
-use Rattle.pool.specs.Codes.{settingFrom, arms}
+use Rattle.layout.specs.Ways.{tests}
+use Rattle.layout.specs.Codes.{settingFrom, arms}
 use borrow.Author.Needs.{needs}
 use Rattle.pool.proofs.codes.setting_from.Statement.{statement}
 use Rattle.pool.proofs.codes.setting_from.Tie as tie

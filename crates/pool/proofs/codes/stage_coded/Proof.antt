@@ -1,5 +1,5 @@
-use Rattle.pool.specs.Coding.{coding}
-use Rattle.pool.specs.Codes.{codeOf, isCode, makingFrom, readingFrom, settingFrom, stageCoded, stageFrom, stageOf}
+use Rattle.layout.specs.Coding.{coding}
+use Rattle.layout.specs.Codes.{codeOf, isCode, makingFrom, readingFrom, settingFrom, stageCoded, stageFrom, stageOf}
 use borrow.Author.Needs.{needs}
 use Rattle.pool.proofs.codes.stage_coded.Statement.{statement}
 use Rattle.pool.proofs.codes.stage_coded.Tie as tie

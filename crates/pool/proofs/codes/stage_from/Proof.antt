@@ -1,5 +1,5 @@
-use Rattle.pool.specs.Ways.{tests}
-use Rattle.pool.specs.Codes.{stageFrom, stageOf, arms}
+use Rattle.layout.specs.Ways.{tests}
+use Rattle.layout.specs.Codes.{stageFrom, stageOf, arms}
 use borrow.Author.Needs.{needs}
 use Rattle.pool.proofs.codes.stage_from.Statement.{statement}
 use Rattle.pool.proofs.codes.stage_from.Tie as tie

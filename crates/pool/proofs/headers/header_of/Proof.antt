@@ -1,4 +1,4 @@
-use Rattle.pool.specs.Ways.{headers}
+use Rattle.layout.specs.Ways.{headers}
 use borrow.Author.Needs.{needs}
 use Rattle.pool.proofs.headers.header_of.Statement.{statement}
 use Rattle.pool.proofs.headers.header_of.Tie as tie

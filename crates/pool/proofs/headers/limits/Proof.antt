@@ -1,5 +1,5 @@
-use Rattle.pool.specs.Ways.{tests}
-use Rattle.pool.specs.Header.{limited}
+use Rattle.layout.specs.Ways.{tests}
+use Rattle.layout.specs.Header.{limited}
 use borrow.Author.Needs.{needs}
 use Rattle.pool.proofs.headers.limits.Statement.{statement}
 use Rattle.pool.proofs.headers.limits.Tie as tie

@@ -1,4 +1,4 @@
-use Rattle.pool.specs.Ways.{sizing}
+use Rattle.layout.specs.Ways.{sizing}
 use borrow.Author.Needs.{needs}
 use Rattle.pool.proofs.headers.sizes.Statement.{statement}
 use Rattle.pool.proofs.headers.sizes.Tie as tie

@@ -1,7 +1,7 @@
 use Prim.Native.Nat.{_-_, _≤_}
 use mathlib.Core.Path.{_≡_}
 use lib.ListN.{length}
-use Rattle.pool.specs.Opens.{Cleared, clears}
+use Rattle.layout.specs.Opens.{Cleared, clears}
 use borrow.Author.Needs.{needs}
 use Rattle.pool.proofs.opening.clear.Statement.{statement}
 use Rattle.pool.proofs.opening.clear.Tie as tie

@@ -1,4 +1,4 @@
-use Rattle.pool.specs.Ways.{header-headed}
+use Rattle.layout.specs.Ways.{header-headed}
 use lib.ListN.{length-set}
 use native.Mathlib.Omega.{arith}
 use borrow.Author.Needs.{needs}

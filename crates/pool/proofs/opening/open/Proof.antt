@@ -1,5 +1,5 @@
-use Rattle.pool.specs.Opens.{openings}
-use Rattle.pool.specs.Parts.{part, splice}
+use Rattle.layout.specs.Opens.{openings}
+use Rattle.layout.specs.Parts.{part, splice}
 use borrow.Author.Needs.{needs}
 use Rattle.pool.proofs.opening.open.Statement.{statement}
 use Rattle.pool.proofs.opening.open.Tie as tie

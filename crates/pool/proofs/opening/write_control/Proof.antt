@@ -1,4 +1,4 @@
-use Rattle.pool.specs.Opens.{openings}
+use Rattle.layout.specs.Opens.{openings}
 use borrow.Author.Needs.{needs}
 use Rattle.pool.proofs.opening.write_control.Statement.{statement}
 use Rattle.pool.proofs.opening.write_control.Tie as tie

@@ -1,4 +1,4 @@
-use Rattle.pool.specs.Opens.{clears}
+use Rattle.layout.specs.Opens.{clears}
 use borrow.Author.Needs.{needs}
 use Rattle.pool.proofs.opening.zero.Statement.{statement}
 use Rattle.pool.proofs.opening.zero.Tie as tie

@@ -1,7 +1,7 @@
-use Rattle.pool.specs.Lends.{lends}
-use Rattle.pool.specs.Parts.{part}
-use Rattle.pool.specs.Places.{slotPart}
-use Rattle.pool.specs.Pool.{slotIn}
+use Rattle.layout.specs.Lends.{lends}
+use Rattle.layout.specs.Parts.{part}
+use Rattle.layout.specs.Places.{slotPart}
+use Rattle.layout.specs.Pool.{slotIn}
 use borrow.Author.Needs.{needs}
 use Rattle.pool.proofs.slots.load_slot.Statement.{statement}
 use Rattle.pool.proofs.slots.load_slot.Tie as tie

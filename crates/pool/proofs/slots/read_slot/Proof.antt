@@ -1,5 +1,5 @@
-use Rattle.pool.specs.Ways.{tests, rowing}
-use Rattle.pool.specs.Rows.{slotRowOf, slotFits, slotRead}
+use Rattle.layout.specs.Ways.{tests, rowing}
+use Rattle.layout.specs.Rows.{slotRowOf, slotFits, slotRead}
 use Rattle.rulebook.specs.Sizes.{lastSerial}
 use borrow.Author.Needs.{needs}
 use Rattle.pool.proofs.slots.read_slot.Statement.{statement}

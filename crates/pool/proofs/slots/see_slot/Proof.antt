@@ -1,6 +1,6 @@
-use Rattle.pool.specs.Lends.{lends}
-use Rattle.pool.specs.Ways.{seeing}
-use Rattle.pool.specs.Parts.{part}
+use Rattle.layout.specs.Lends.{lends}
+use Rattle.layout.specs.Ways.{seeing}
+use Rattle.layout.specs.Parts.{part}
 use borrow.Author.Needs.{needs}
 use Rattle.pool.proofs.slots.see_slot.Statement.{statement}
 use Rattle.pool.proofs.slots.see_slot.Tie as tie

@@ -1,4 +1,4 @@
-use Rattle.pool.specs.Ways.{seeing, tests}
+use Rattle.layout.specs.Ways.{seeing, tests}
 use borrow.Author.Needs.{needs}
 use Rattle.pool.proofs.slots.seen_slot.Statement.{statement}
 use Rattle.pool.proofs.slots.seen_slot.Tie as tie

@@ -1,5 +1,5 @@
-use Rattle.pool.specs.Ways.{rowing}
-use Rattle.pool.specs.Rows.{slotRead}
+use Rattle.layout.specs.Ways.{rowing}
+use Rattle.layout.specs.Rows.{slotRead}
 use borrow.Author.Needs.{needs}
 use Rattle.pool.proofs.slots.slot_of.Statement.{statement}
 use Rattle.pool.proofs.slots.slot_of.Tie as tie

@@ -1,4 +1,4 @@
-use Rattle.pool.specs.Ways.{rowing}
+use Rattle.layout.specs.Ways.{rowing}
 use borrow.Author.Needs.{needs}
 use Rattle.pool.proofs.slots.write_slot.Statement.{statement}
 use Rattle.pool.proofs.slots.write_slot.Tie as tie

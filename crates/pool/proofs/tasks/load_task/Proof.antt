@@ -1,7 +1,7 @@
-use Rattle.pool.specs.Lends.{lends}
-use Rattle.pool.specs.Parts.{part}
-use Rattle.pool.specs.Places.{taskPart}
-use Rattle.pool.specs.Pool.{taskIn}
+use Rattle.layout.specs.Lends.{lends}
+use Rattle.layout.specs.Parts.{part}
+use Rattle.layout.specs.Places.{taskPart}
+use Rattle.layout.specs.Pool.{taskIn}
 use borrow.Author.Needs.{needs}
 use Rattle.pool.proofs.tasks.load_task.Statement.{statement}
 use Rattle.pool.proofs.tasks.load_task.Tie as tie

@@ -1,4 +1,4 @@
-use Rattle.pool.specs.Ways.{tasking}
+use Rattle.layout.specs.Ways.{tasking}
 use borrow.Author.Needs.{needs}
 use Rattle.pool.proofs.tasks.read_task.Statement.{statement}
 use Rattle.pool.proofs.tasks.read_task.Tie as tie

@@ -1,4 +1,4 @@
-use Rattle.pool.specs.Ways.{seeing}
+use Rattle.layout.specs.Ways.{seeing}
 use borrow.Author.Needs.{needs}
 use Rattle.pool.proofs.tasks.seen_task.Statement.{statement}
 use Rattle.pool.proofs.tasks.seen_task.Tie as tie

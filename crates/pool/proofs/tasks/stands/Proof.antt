@@ -1,5 +1,5 @@
-use Rattle.pool.specs.Ways.{tests}
-use Rattle.pool.specs.Rows.{standsIn, taskRead}
+use Rattle.layout.specs.Ways.{tests}
+use Rattle.layout.specs.Rows.{standsIn, taskRead}
 use borrow.Author.Needs.{needs}
 use Rattle.pool.proofs.tasks.stands.Statement.{statement}
 use Rattle.pool.proofs.tasks.stands.Tie as tie

@@ -1,5 +1,5 @@
-use Rattle.pool.specs.Lends.{lends}
-use Rattle.pool.specs.Parts.{part, splice}
+use Rattle.layout.specs.Lends.{lends}
+use Rattle.layout.specs.Parts.{part, splice}
 use borrow.Author.Needs.{needs}
 use Rattle.pool.proofs.tasks.store_task.Statement.{statement}
 use Rattle.pool.proofs.tasks.store_task.Tie as tie

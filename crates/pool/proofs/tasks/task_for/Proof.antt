@@ -1,6 +1,6 @@
-use Rattle.pool.specs.Lends.{lends}
-use Rattle.pool.specs.Parts.{part}
-use Rattle.pool.specs.Places.{taskPart}
+use Rattle.layout.specs.Lends.{lends}
+use Rattle.layout.specs.Parts.{part}
+use Rattle.layout.specs.Places.{taskPart}
 use borrow.Author.Needs.{needs}
 use Rattle.pool.proofs.tasks.task_for.Statement.{statement}
 use Rattle.pool.proofs.tasks.task_for.Tie as tie

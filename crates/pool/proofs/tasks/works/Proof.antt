@@ -1,5 +1,5 @@
-use Rattle.pool.specs.Ways.{tests}
-use Rattle.pool.specs.Rows.{taskRead, worksIn}
+use Rattle.layout.specs.Ways.{tests}
+use Rattle.layout.specs.Rows.{taskRead, worksIn}
 use borrow.Author.Needs.{needs}
 use Rattle.pool.proofs.tasks.works.Statement.{statement}
 use Rattle.pool.proofs.tasks.works.Tie as tie

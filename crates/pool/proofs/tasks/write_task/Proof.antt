@@ -1,4 +1,4 @@
-use Rattle.pool.specs.Ways.{rowing}
+use Rattle.layout.specs.Ways.{rowing}
 use lib.ListN.{length-set}
 use native.Mathlib.Omega.{arith}
 use borrow.Author.Needs.{needs}

@@ -1,5 +1,5 @@
 use Rattle.store.specs.Calls.{calls, looks}
-use Rattle.pool.specs.Calls.{lookCellIn}
+use Rattle.layout.specs.Calls.{lookCellIn}
 use borrow.Author.Needs.{needs}
 use Rattle.store.proofs.looks.look_cell.Statement.{statement}
 use Rattle.store.proofs.looks.look_cell.Tie as tie

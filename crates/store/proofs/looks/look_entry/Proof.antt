@@ -1,5 +1,5 @@
 use Rattle.store.specs.Calls.{calls, looks}
-use Rattle.pool.specs.Calls.{lookEntryIn}
+use Rattle.layout.specs.Calls.{lookEntryIn}
 use borrow.Author.Needs.{needs}
 use Rattle.store.proofs.looks.look_entry.Statement.{statement}
 use Rattle.store.proofs.looks.look_entry.Tie as tie

@@ -1,5 +1,5 @@
 use Rattle.store.specs.Calls.{calls, looks}
-use Rattle.pool.specs.Calls.{lookLogIn}
+use Rattle.layout.specs.Calls.{lookLogIn}
 use borrow.Author.Needs.{needs}
 use Rattle.store.proofs.looks.look_log.Statement.{statement}
 use Rattle.store.proofs.looks.look_log.Tie as tie

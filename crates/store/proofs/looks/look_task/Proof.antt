@@ -1,5 +1,5 @@
 use Rattle.store.specs.Calls.{calls, looks}
-use Rattle.pool.specs.Calls.{lookTaskIn}
+use Rattle.layout.specs.Calls.{lookTaskIn}
 use borrow.Author.Needs.{needs}
 use Rattle.store.proofs.looks.look_task.Statement.{statement}
 use Rattle.store.proofs.looks.look_task.Tie as tie

@@ -1,5 +1,5 @@
 use Rattle.store.specs.Calls.{calls, looks}
-use Rattle.pool.specs.Calls.{lookVersionIn}
+use Rattle.layout.specs.Calls.{lookVersionIn}
 use borrow.Author.Needs.{needs}
 use Rattle.store.proofs.looks.look_version.Statement.{statement}
 use Rattle.store.proofs.looks.look_version.Tie as tie

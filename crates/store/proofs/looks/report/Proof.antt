@@ -1,5 +1,5 @@
 use Rattle.store.specs.Calls.{calls, looks}
-use Rattle.pool.specs.Calls.{reportIn}
+use Rattle.layout.specs.Calls.{reportIn}
 use borrow.Author.Needs.{needs}
 use Rattle.store.proofs.looks.report.Statement.{statement}
 use Rattle.store.proofs.looks.report.Tie as tie

@@ -1,7 +1,7 @@
 use Prim.Native.Nat.{_-_, _≤_}
 use mathlib.Core.Path.{_≡_}
 use Rattle.acts.specs.Looks.{countOf, livesAt}
-use Rattle.pool.specs.Pool.{sight}
+use Rattle.layout.specs.Pool.{sight}
 use Rattle.work.specs.Scans.{counts}
 use borrow.Author.Needs.{needs}
 use Rattle.work.proofs.searches.live_handles.Statement.{statement}

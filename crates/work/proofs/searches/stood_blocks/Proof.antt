@@ -2,7 +2,7 @@ use Prim.Native.Nat.{_-_, _≤_}
 use mathlib.Core.Path.{_≡_}
 use Rattle.acts.specs.Looks.{countOf}
 use Rattle.acts.specs.Plans.{standerIn}
-use Rattle.pool.specs.Pool.{sight}
+use Rattle.layout.specs.Pool.{sight}
 use Rattle.work.specs.Scans.{counts}
 use borrow.Author.Needs.{needs}
 use Rattle.work.proofs.searches.stood_blocks.Statement.{statement}

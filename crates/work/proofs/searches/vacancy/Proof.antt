@@ -2,7 +2,7 @@ use Prim.Native.Nat.{_-_, _≤_}
 use mathlib.Core.Path.{_≡_}
 use Rattle.acts.specs.declared.Found.the-variants.{None}
 use Rattle.acts.specs.Plans.{firstOf, vacantAt}
-use Rattle.pool.specs.Pool.{sight}
+use Rattle.layout.specs.Pool.{sight}
 use Rattle.work.specs.Scans.{scans}
 use borrow.Author.Needs.{needs}
 use Rattle.work.proofs.searches.vacancy.Statement.{statement}

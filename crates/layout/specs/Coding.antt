@@ -10,7 +10,7 @@ use Rattle.rulebook.specs.declared.Stage.{Stage}
 use Rattle.rulebook.specs.declared.Stage.the-variants as stage
 use Rattle.acts.specs.declared.StageRow.{StageRow}
 use Rattle.acts.specs.declared.StageRow.the-variants as stagerow
-use Rattle.pool.specs.Codes.{codeOf, isCode, stageCoded, stageFrom}
+use Rattle.layout.specs.Codes.{codeOf, isCode, stageCoded, stageFrom}
 
 pub coded-at : (c y : ℕ) (r : StageRow) → c ≡ y → r ≡ stageCoded y → r ≡ stageCoded c
 coded-at c y r e f = f ∙ sym (ap stageCoded e)

@@ -15,8 +15,8 @@ use Rattle.rulebook.specs.declared.Slot.{Slot}
 use Rattle.rulebook.specs.declared.Task.{Task}
 use Rattle.acts.specs.declared.SlotRow.the-variants as slotrow
 use Rattle.acts.specs.declared.TaskRow.the-variants as taskrow
-use Rattle.pool.specs.Codes.{stageOf, stageFrom, isCode, statusFrom, stage-from, status-from}
-use Rattle.pool.specs.Rows.{slotWords, slotRead, slotFits, slotRowOf, bitOf, taskWords, taskRead, standsIn, worksIn, taskFits, taskRowOf, Ranged}
+use Rattle.layout.specs.Codes.{stageOf, stageFrom, isCode, statusFrom, stage-from, status-from}
+use Rattle.layout.specs.Rows.{slotWords, slotRead, slotFits, slotRowOf, bitOf, taskWords, taskRead, standsIn, worksIn, taskFits, taskRowOf, Ranged}
 
 -- ---- what is written is what is read
 

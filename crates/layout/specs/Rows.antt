@@ -16,7 +16,7 @@ use Rattle.acts.specs.declared.TaskRow.{TaskRow}
 use Rattle.acts.specs.declared.TaskRow.the-variants as taskrow
 use Rattle.acts.specs.declared.StageRow.{StageRow}
 use Rattle.acts.specs.declared.StageRow.the-variants as stagerow
-use Rattle.pool.specs.Codes.{codeOf, stageFrom, isCode, statusCode, statusFrom}
+use Rattle.layout.specs.Codes.{codeOf, stageFrom, isCode, statusCode, statusFrom}
 
 -- ---- a handle row
 

@@ -34,12 +34,12 @@ use Rattle.acts.specs.declared.SlotChange.the-variants as slot
 use Rattle.acts.specs.declared.TaskChange.{TaskChange}
 use Rattle.acts.specs.declared.TaskChange.the-variants as task
 use Rattle.acts.specs.declared.Act.{Act}
-use Rattle.pool.specs.declared.Header.{Header}
-use Rattle.pool.specs.declared.Header.the-variants as header
-use Rattle.pool.specs.Parts.{splice, putRow}
-use Rattle.pool.specs.Rows.{slotWords, slotRead, slotRowOf, slotSeenOf, taskFields, taskWords, taskRead, taskRowOf, taskSeenOf}
-use Rattle.pool.specs.Places.{taskBase, blockBase, slotPart, taskPart, blockPart}
-use Rattle.pool.specs.Header.{headerFields, headed, sizesIn}
+use Rattle.layout.specs.declared.Header.{Header}
+use Rattle.layout.specs.declared.Header.the-variants as header
+use Rattle.layout.specs.Parts.{splice, putRow}
+use Rattle.layout.specs.Rows.{slotWords, slotRead, slotRowOf, slotSeenOf, taskFields, taskWords, taskRead, taskRowOf, taskSeenOf}
+use Rattle.layout.specs.Places.{taskBase, blockBase, slotPart, taskPart, blockPart}
+use Rattle.layout.specs.Header.{headerFields, headed, sizesIn}
 
 -- ---- the state that a pool shows
 

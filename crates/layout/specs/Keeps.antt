@@ -15,12 +15,12 @@ use Rattle.rulebook.specs.declared.Sizes.{Sizes}
 use Rattle.rulebook.specs.declared.Slot.{Slot}
 use Rattle.rulebook.specs.declared.Task.{Task}
 use Rattle.block.specs.Layout.{Sized}
-use Rattle.pool.specs.Parts.{rowPart, putRow, Fitting, length-part, splice-length, splice-before, splice-after, splice-part, part-before, part-after}
-use Rattle.pool.specs.Rows.{slotWords, taskWords, taskFields}
-use Rattle.pool.specs.Places.{taskBase, blockBase, slotPart, taskPart, blockPart, Spans}
-use Rattle.pool.specs.Header.{headerOf}
-use Rattle.pool.specs.Pool.{putSlot, putTask, putBlock}
-use Rattle.pool.specs.Lends.{row-ends}
+use Rattle.layout.specs.Parts.{rowPart, putRow, Fitting, length-part, splice-length, splice-before, splice-after, splice-part, part-before, part-after}
+use Rattle.layout.specs.Rows.{slotWords, taskWords, taskFields}
+use Rattle.layout.specs.Places.{taskBase, blockBase, slotPart, taskPart, blockPart, Spans}
+use Rattle.layout.specs.Header.{headerOf}
+use Rattle.layout.specs.Pool.{putSlot, putTask, putBlock}
+use Rattle.layout.specs.Lends.{row-ends}
 
 -- ---- one row of many
 

@@ -17,15 +17,15 @@ use Rattle.rulebook.specs.Lists.{listTo-same, replicate-get}
 use Rattle.rulebook.specs.declared.Sizes.{Sizes}
 use Rattle.rulebook.specs.declared.Reply.the-variants as reply
 use Rattle.block.specs.Sound.{blockOf}
-use Rattle.pool.specs.declared.Header.the-variants as header
-use Rattle.pool.specs.Parts.{part, splice, Fitting, length-part, getD-part, splice-length, splice-after, splice-part, part-after}
-use Rattle.pool.specs.Rows.{slotRead, taskRead}
-use Rattle.pool.specs.Places.{slotPart, taskPart, blockPart}
-use Rattle.pool.specs.Header.{headerFields, headed, sizesOf, sizesIn, headerOf}
-use Rattle.pool.specs.Sizing.{Openable, opens-says, described-header}
-use Rattle.pool.specs.Pool.{viewOf, controlOf, openUnder, openIn, lieOf}
-use Rattle.pool.specs.Lends.{row-ends}
-use Rattle.pool.specs.Ranges.{slot-zero, task-zero}
+use Rattle.layout.specs.declared.Header.the-variants as header
+use Rattle.layout.specs.Parts.{part, splice, Fitting, length-part, getD-part, splice-length, splice-after, splice-part, part-after}
+use Rattle.layout.specs.Rows.{slotRead, taskRead}
+use Rattle.layout.specs.Places.{slotPart, taskPart, blockPart}
+use Rattle.layout.specs.Header.{headerFields, headed, sizesOf, sizesIn, headerOf}
+use Rattle.layout.specs.Sizing.{Openable, opens-says, described-header}
+use Rattle.layout.specs.Pool.{viewOf, controlOf, openUnder, openIn, lieOf}
+use Rattle.layout.specs.Lends.{row-ends}
+use Rattle.layout.specs.Ranges.{slot-zero, task-zero}
 
 pub listTo-replicate : {A : Type 0} (n : ℕ) (a : A) → listTo n (λ (i : ℕ). a) ≡ replicate n a
 unfolding listTo

@@ -13,9 +13,9 @@ use Rattle.block.specs.declared.change.Room.{Room}
 use Rattle.block.specs.declared.change.Room.the-variants as room
 use Rattle.acts.specs.declared.Touch.{Touch}
 use Rattle.acts.specs.declared.Touch.the-variants as touch
-use Rattle.pool.specs.Parts.{splice-same}
-use Rattle.pool.specs.Places.{blockPart}
-use Rattle.pool.specs.Pool.{putBlock, raised, putDone, touchNear, touchedIn, touchedNear}
+use Rattle.layout.specs.Parts.{splice-same}
+use Rattle.layout.specs.Places.{blockPart}
+use Rattle.layout.specs.Pool.{putBlock, raised, putDone, touchNear, touchedIn, touchedNear}
 
 -- ---- what is not done changes nothing
 

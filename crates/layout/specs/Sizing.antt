@@ -12,10 +12,10 @@ use borrow.Author.Tests.{ltb-true, ltb-false, leb-true, eqb-true, le-leb, eq-eqb
 use Rattle.rulebook.specs.Sizes.{mostCells, mostHandles, mostTasks, mostBlocks, mostWords, headerWords, controlWords, blockWords, room, within, opens}
 use Rattle.rulebook.specs.Tests.{by-test, and-both}
 use Rattle.rulebook.specs.declared.Sizes.{Sizes}
-use Rattle.pool.specs.declared.Header.{Header}
-use Rattle.pool.specs.declared.Header.the-variants as header
-use Rattle.pool.specs.Places.{Spans}
-use Rattle.pool.specs.Header.{mark, form, limited, sizesOf, sizesIn, headerOf}
+use Rattle.layout.specs.declared.Header.{Header}
+use Rattle.layout.specs.declared.Header.the-variants as header
+use Rattle.layout.specs.Places.{Spans}
+use Rattle.layout.specs.Header.{mark, form, limited, sizesOf, sizesIn, headerOf}
 
 -- ---- the limits
 

@@ -7,8 +7,8 @@ use lib.ListN.{length, getD}
 use lib.Dec.{leb, eqb}
 use Rattle.rulebook.specs.Sizes.{if_then_else_, mostCells, mostHandles, mostTasks, headerWords, room, within, opens}
 use Rattle.rulebook.specs.declared.Sizes.{Sizes}
-use Rattle.pool.specs.declared.Header.{Header}
-use Rattle.pool.specs.declared.Header.the-variants as header
+use Rattle.layout.specs.declared.Header.{Header}
+use Rattle.layout.specs.declared.Header.the-variants as header
 
 abbrev pub mark : ℕ
 mark = 0x00494B56

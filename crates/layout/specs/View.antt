@@ -13,11 +13,11 @@ use Rattle.rulebook.specs.declared.Sizes.{Sizes}
 use Rattle.rulebook.specs.declared.Slot.{Slot}
 use Rattle.rulebook.specs.declared.Task.{Task}
 use Rattle.block.specs.Sound.{blockOf}
-use Rattle.pool.specs.Rows.{slotRead, taskFields, taskRead}
-use Rattle.pool.specs.Places.{slotPart, taskPart, blockPart, Spans}
-use Rattle.pool.specs.Pool.{viewOf, putSlot, putTask, putBlock}
-use Rattle.pool.specs.Keeps.{none, Keeps, slot-own, slot-keeps, task-own, task-keeps, block-own, block-keeps}
-use Rattle.pool.specs.Ranges.{slot-read, task-read}
+use Rattle.layout.specs.Rows.{slotRead, taskFields, taskRead}
+use Rattle.layout.specs.Places.{slotPart, taskPart, blockPart, Spans}
+use Rattle.layout.specs.Pool.{viewOf, putSlot, putTask, putBlock}
+use Rattle.layout.specs.Keeps.{none, Keeps, slot-own, slot-keeps, task-own, task-keeps, block-own, block-keeps}
+use Rattle.layout.specs.Ranges.{slot-read, task-read}
 
 module _ (d : Sizes) (p : List ℕ) where
   abbrev slotOn : List ℕ → ℕ → Slot

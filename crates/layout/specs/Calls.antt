@@ -8,10 +8,10 @@ use Rattle.acts.specs.Looks.{seesCell, seesEntry, seesLog, seesReport, seesTask
 use Rattle.acts.specs.Plans.{planGet, planNew, planPage, planRelease, planSet}
 use Rattle.acts.specs.StepPlans.{planStep}
 use Rattle.acts.specs.Sight.{Sight}
-use Rattle.pool.specs.Header.{headerOf}
-use Rattle.pool.specs.Pool.{appliedIn, sight}
-use Rattle.pool.specs.declared.Header.{Header}
-use Rattle.pool.specs.declared.Header.the-variants as header
+use Rattle.layout.specs.Header.{headerOf}
+use Rattle.layout.specs.Pool.{appliedIn, sight}
+use Rattle.layout.specs.declared.Header.{Header}
+use Rattle.layout.specs.declared.Header.the-variants as header
 use Rattle.rulebook.specs.declared.Reply.the-variants as reply
 use Rattle.acts.specs.declared.Found.the-variants as found
 

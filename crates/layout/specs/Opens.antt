@@ -10,12 +10,12 @@ use lib.Seq.{drop-cons, set-at, set-getD, append-snoc, drop-length}
 use Rattle.rulebook.specs.declared.Sizes.{Sizes}
 use Rattle.rulebook.specs.declared.Reply.the-variants as reply
 use Rattle.rulebook.specs.Sizes.{mostHandles, mostTasks, headerWords, controlWords}
-use Rattle.pool.specs.declared.Header.{Header}
-use Rattle.pool.specs.declared.Header.the-variants as header
-use Rattle.pool.specs.Header.{headerFields, headed, sizesIn}
-use Rattle.pool.specs.Sizing.{Openable, opens-says, sizes-good}
-use Rattle.pool.specs.Parts.{part, splice, length-part}
-use Rattle.pool.specs.Pool.{controlOf, openUnder, openIn}
+use Rattle.layout.specs.declared.Header.{Header}
+use Rattle.layout.specs.declared.Header.the-variants as header
+use Rattle.layout.specs.Header.{headerFields, headed, sizesIn}
+use Rattle.layout.specs.Sizing.{Openable, opens-says, sizes-good}
+use Rattle.layout.specs.Parts.{part, splice, length-part}
+use Rattle.layout.specs.Pool.{controlOf, openUnder, openIn}
 
 -- a word that is 0 already
 pub zero-same : (part : List ℕ) (i : ℕ) → getD part i 0 ≡ 0 → part ≡ set part i 0

@@ -28,12 +28,12 @@ use Rattle.block.specs.declared.Probed.{Probed}
 use Rattle.block.specs.declared.Probed.the-variants as probed
 use Rattle.acts.specs.declared.Touch.{Touch}
 use Rattle.acts.specs.declared.Touch.the-variants as touch
-use Rattle.pool.specs.Parts.{part, splice, length-part}
-use Rattle.pool.specs.Rows.{slotWords, taskWords, taskFields}
-use Rattle.pool.specs.Places.{slotStart, taskStart, blockStart, taskPart, blockPart, Spans, Small, Place}
-use Rattle.pool.specs.Pool.{putSlot, putTask, putBlock, raised, putDone, touchNear, touchedIn, touchedNear, versionSeen, cellSeen, lengthSeen, entrySeen}
-use Rattle.pool.specs.Sizing.{room-all}
-use Rattle.pool.specs.Does.{touched-near}
+use Rattle.layout.specs.Parts.{part, splice, length-part}
+use Rattle.layout.specs.Rows.{slotWords, taskWords, taskFields}
+use Rattle.layout.specs.Places.{slotStart, taskStart, blockStart, taskPart, blockPart, Spans, Small, Place}
+use Rattle.layout.specs.Pool.{putSlot, putTask, putBlock, raised, putDone, touchNear, touchedIn, touchedNear, versionSeen, cellSeen, lengthSeen, entrySeen}
+use Rattle.layout.specs.Sizing.{room-all}
+use Rattle.layout.specs.Does.{touched-near}
 
 -- row j of so many rows ends within what they take
 pub row-ends : (width j count : ℕ) → j < count → width * j + width ≤ width * count

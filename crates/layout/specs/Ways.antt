@@ -22,16 +22,16 @@ use Rattle.acts.specs.declared.TaskRow.the-variants as taskrow
 use Rattle.acts.specs.declared.StageRow.{StageRow}
 use Rattle.acts.specs.declared.StageRow.the-variants as stagerow
 use Rattle.rulebook.specs.Tests.{by-test}
-use Rattle.pool.specs.declared.Header.{Header}
-use Rattle.pool.specs.declared.Header.the-variants as header
-use Rattle.pool.specs.Sizing.{Limits, limited-says, opens-by, room-none, room-some, block-positive}
-use Rattle.pool.specs.Codes.{codeOf, isCode, stageCoded, stageFrom, statusCode, statusFrom}
-use Rattle.pool.specs.Rows.{bitOf, slotWords, slotRead, slotFits, slotRowOf, slotSeenOf, taskFields, taskWords, taskWith, taskRead, standsIn, worksIn, taskFits, taskRowOf, taskSeenOf, stageSeen}
-use Rattle.pool.specs.Parts.{part}
-use Rattle.pool.specs.Places.{slotPart, slotStart}
-use Rattle.pool.specs.Pool.{slotSeen}
+use Rattle.layout.specs.declared.Header.{Header}
+use Rattle.layout.specs.declared.Header.the-variants as header
+use Rattle.layout.specs.Sizing.{Limits, limited-says, opens-by, room-none, room-some, block-positive}
+use Rattle.layout.specs.Codes.{codeOf, isCode, stageCoded, stageFrom, statusCode, statusFrom}
+use Rattle.layout.specs.Rows.{bitOf, slotWords, slotRead, slotFits, slotRowOf, slotSeenOf, taskFields, taskWords, taskWith, taskRead, standsIn, worksIn, taskFits, taskRowOf, taskSeenOf, stageSeen}
+use Rattle.layout.specs.Parts.{part}
+use Rattle.layout.specs.Places.{slotPart, slotStart}
+use Rattle.layout.specs.Pool.{slotSeen}
 use Rattle.acts.specs.declared.SlotRow.{SlotRow}
-use Rattle.pool.specs.Header.{mark, form, limited, sizesOf, sizesIn, headed, headerFields, headerOf}
+use Rattle.layout.specs.Header.{mark, form, limited, sizesOf, sizesIn, headed, headerFields, headerOf}
 
 -- at a return whose case was found by tests on numbers
 pub ruleset tests = (le-leb, lt-leb, le-ltb, lt-ltb, eq-eqb, ne-eqb)

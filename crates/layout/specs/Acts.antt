@@ -32,11 +32,11 @@ use Rattle.acts.specs.declared.SlotChange.the-variants as slot
 use Rattle.acts.specs.declared.TaskChange.{TaskChange}
 use Rattle.acts.specs.declared.TaskChange.the-variants as task
 use Rattle.acts.specs.declared.Act.{Act}
-use Rattle.pool.specs.Places.{blockPart, Spans}
-use Rattle.pool.specs.Pool.{viewOf, putBlock, raised, putDone, touchedIn, touchedNear, seatedIn, turnedIn, actedIn, appliedIn, touchNear, slotNear, taskNear, InReach}
-use Rattle.pool.specs.Keeps.{none, only, Keeps, keeps-spans, keeps-all, keeps-both, slots-alone, tasks-alone, blocks-alone, slot-keeps, task-keeps, block-own, block-keeps, block-length, block-sized}
-use Rattle.pool.specs.Does.{done-near, touched-far, touched-near}
-use Rattle.pool.specs.View.{view-block-at, view-slot, view-task, view-block}
+use Rattle.layout.specs.Places.{blockPart, Spans}
+use Rattle.layout.specs.Pool.{viewOf, putBlock, raised, putDone, touchedIn, touchedNear, seatedIn, turnedIn, actedIn, appliedIn, touchNear, slotNear, taskNear, InReach}
+use Rattle.layout.specs.Keeps.{none, only, Keeps, keeps-spans, keeps-all, keeps-both, slots-alone, tasks-alone, blocks-alone, slot-keeps, task-keeps, block-own, block-keeps, block-length, block-sized}
+use Rattle.layout.specs.Does.{done-near, touched-far, touched-near}
+use Rattle.layout.specs.View.{view-block-at, view-slot, view-task, view-block}
 
 -- ---- a touch leaves a block as long as it was
 

@@ -6,7 +6,7 @@ use mathlib.Core.List.{List}
 use lib.ListN.{length}
 use Rattle.rulebook.specs.Sizes.{mostCells, mostHandles, mostTasks, mostBlocks, headerWords, handleRow, taskRow, controlWords, blockWords, room}
 use Rattle.rulebook.specs.declared.Sizes.{Sizes}
-use Rattle.pool.specs.Parts.{rowPart}
+use Rattle.layout.specs.Parts.{rowPart}
 
 -- where the task rows begin, and the blocks
 abbrev pub taskBase : Sizes → ℕ
