@@ -54,7 +54,7 @@ END {
     print "- **(a) array**: a plain array of N words. It has no older version to read and none to copy."
     print "- **(b) tables**: a whole table is copied for each version."
     print "- **(c) plain C**: the same rule book written by hand in C (bench/plain.c): it trusts what it finds in the pool."
-    print "- **Winchclover**: the proved archive, which tests every number that it reads before it uses it."
+    print "- **Winchclover**: the proved archive, which tests every code, block, cell and slot before it goes by it."
     print ""
     print "An operation is its start and all its steps. The old version has N newer ones on its block, and half of the block's entries are in the log"
     print "of the cell that is read: the longest search that the work gives. A copy is a set of that old version; a page is of the whole table."

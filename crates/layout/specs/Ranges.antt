@@ -1,4 +1,4 @@
--- What is written is what is read, and a row that was read lies in its ranges.
+-- What is written is what is read, and a row that the check has read lies in its ranges.
 -- Rests on Codes and Rows.
 use Prim.Native.Nat.{ℕ}
 use mathlib.Core.Path.{_≡_, refl, sym, ap, _∙_}
