@@ -555,19 +555,21 @@ static void damaged_rows(void) {
     damaged(TASK_1, 60, CALL(START_GET, 1, 256, 0));
     damaged(TASK_1, 60, CALL(RELEASE, 257));
     damaged(SLOT_0 + 1, 3, CALL(START_GET, 0, 256, 0));
+    damaged(SLOT_0 + 2, 2, CALL(START_GET, 0, 256, 0));
+    damaged(SLOT_0 + 2, 2, CALL(START_SET, 0, 256, 0, 1));
+    damaged(SLOT_0 + 2, 2, CALL(START_PAGE, 0, 256, 0, 1));
+    damaged(SLOT_0 + 2, UINT32_MAX, CALL(RELEASE, 256));
+    damaged(SLOT_0 + 3, 3, CALL(START_GET, 0, 256, 0));
+    damaged(SLOT_0 + 3, UINT32_MAX, CALL(RELEASE, 256));
     damaged(SLOT_0 + 1, 3, CALL(START_NEW, 0, 1));
     damaged(SLOT_0 + 1, 3, CALL(REPORT));
     damaged(SLOT_0 + 1, 3, CALL(LOOK_VERSION, 0));
     end_case();
 }
 
-/* a number that points outside is met where a step goes by it: a block, a cell, a slot */
+/* a number of a task that points outside is met where a step goes by it: a block, a cell, a slot */
 static void damaged_numbers(void) {
     begin_case("2 of a number that points outside");
-    two_tables();
-    pool[SLOT_0 + 2] = 2;
-    quiet(CALL(START_PAGE, 0, 256, 0, 1));
-    refuses(CALL(STEP, 0), 2);
     one_table();
     quiet(CALL(START_SET, 0, 256, 0, 1));
     damaged(TASK_0 + 2, 2, CALL(STEP, 0));

@@ -4,6 +4,7 @@ use Prim.Native.Nat.{_+_, suc, zero, ℕ}
 use mathlib.Core.Bool.{Bool, _&&_, _||_, not}
 use lib.Dec.{eqb, leb, ltb}
 use Rattle.rulebook.specs.declared.Reply.{Reply}
+use Rattle.rulebook.specs.declared.Sizes.{Sizes}
 use Rattle.rulebook.specs.declared.Slot.{Slot}
 use Rattle.rulebook.specs.declared.Stage.{Stage}
 use Rattle.rulebook.specs.declared.Task.{Task}
@@ -146,13 +147,17 @@ readyRow (taskrow.Row k) = if busy (k .stage) then 5 else 0
 unfoldable pub readyIn : Sight → ℕ → ℕ
 readyIn e t = if leb (e .sizes .t) t then 4 else readyRow (e .task t)
 
-unfoldable pub liveRow : SlotRow → ℕ → Live
-liveRow slotrow.Bad h = live.Not 2
-liveRow (slotrow.Row x) h = if isLive (x .status) && eqb (x .serial) (serialOf h) then live.On x else live.Not 7
+-- a live handle whose block is not there, or whose number is above N, is bad
+unfoldable pub placed : Sizes → Slot → Live
+placed d x = if ltb (x .block) (d .b) && leb (x .number) (d .n) then live.On x else live.Not 2
+
+unfoldable pub liveRow : Sizes → SlotRow → ℕ → Live
+liveRow d slotrow.Bad h = live.Not 2
+liveRow d (slotrow.Row x) h = if isLive (x .status) && eqb (x .serial) (serialOf h) then placed d x else live.Not 7
 
 -- the slot of the handle h, where it is live with that serial
 unfoldable pub liveIn : Sight → ℕ → Live
-liveIn e h = if leb (e .sizes .h) (slotOf h) then live.Not 7 else liveRow (e .slot (slotOf h)) h
+liveIn e h = if leb (e .sizes .h) (slotOf h) then live.Not 7 else liveRow (e .sizes) (e .slot (slotOf h)) h
 
 -- a task on the handle h, whose slot is x
 abbrev pub begunOn : Slot → ℕ → Stage → ℕ → ℕ → ℕ → ℕ → Task

@@ -27,11 +27,12 @@ use Rattle.rulebook.specs.Sizes.{if_then_else_}
 use Rattle.rulebook.specs.State.{State, any, blockAt, count, freed, isLive, logAt, slotAt, stood}
 use Rattle.rulebook.specs.Tests.{and-both, by-test}
 use Rattle.rules.specs.Rules.{Rules}
+use Rattle.theorems.specs.Invariant.Calls.{is-live}
 use Rattle.theorems.specs.Invariant.Shape.{Shape}
 use Rattle.bridge.specs.Alike.{stander-alike}
 use Rattle.bridge.specs.Planned.{found-case, stander-good, stander-is}
 use Rattle.bridge.specs.Searches.{good-if, isBad, isNone}
-use Rattle.bridge.specs.Shown.{Shows, is-live, sight-shows, sound-shape}
+use Rattle.bridge.specs.Shown.{Shows, sight-shows, sound-shape}
 use Rattle.bridge.specs.Sound.{Sound}
 use Rattle.acts.specs.declared.Found.the-variants as found
 use Rattle.acts.specs.declared.Counted.the-variants as counted

@@ -4,21 +4,24 @@ use Prim.Native.Nat.{_+_, ℕ}
 use mathlib.Core.Bool.{Bool, _&&_, _||_, false, false≢true, not, true, true≢false}
 use mathlib.Core.Path.{_∙_, _≡_, ap, refl}
 use lib.Dec.{eqb, leb, ltb}
-use borrow.Author.Tests.{le-ltb, leb-false, leb-true, lt-ltb}
+use borrow.Author.Tests.{le-leb, le-ltb, leb-false, leb-true, lt-ltb}
 use Rattle.acts.specs.declared.Act.{Act}
 use Rattle.acts.specs.declared.Found.{Found}
 use Rattle.acts.specs.declared.Live.{Live}
 use Rattle.rulebook.specs.declared.Slot.{Slot}
 use Rattle.rulebook.specs.declared.Task.{Task}
 use Rattle.acts.specs.Acted.{acted, seated, touched, turned}
-use Rattle.acts.specs.Plans.{filler, fillerIn, fillsAt, firstOf, foundIf, freeAt, freeIn, getOn, holderIn, liveIn, liveRow, maker, namesAt, naming, newOn, orElse, pageOn, planGet, planNew, planPage, planRelease, planSet, readyIn, readyRow, refused, releaseAt, releaseOn, reservesFor, setAt, setOn, standerIn, standing, standsAt, unheld, userIn, vacant, vacantAt, vacantIn}
+use Rattle.acts.specs.Plans.{filler, fillerIn, fillsAt, firstOf, foundIf, freeAt, freeIn, getOn, holderIn, liveIn, liveRow, maker, namesAt, naming, newOn, orElse, pageOn, placed, planGet, planNew, planPage, planRelease, planSet, readyIn, readyRow, refused, releaseAt, releaseOn, reservesFor, setAt, setOn, standerIn, standing, standsAt, unheld, userIn, vacant, vacantAt, vacantIn}
 use Rattle.acts.specs.Sight.{sightOf}
 use Rattle.rulebook.specs.History.{reading}
 use Rattle.rulebook.specs.Machine.{release}
-use Rattle.rulebook.specs.Sizes.{if_then_else_, lastSerial, slotOf}
+use Rattle.rulebook.specs.Sizes.{if_then_else_, lastSerial, serialOf, slotOf}
 use Rattle.rulebook.specs.Starts.{begun, noSlot, reserve, startGet, startNew, startPage, startSet, startable}
 use Rattle.rulebook.specs.State.{Result, State, filling, fills, freeBlock, freeSlot, freed, held, idle, inUse, isFree, isLive, liveHandle, names, slotAt, stood, taskAt, withSlot, withTask}
-use Rattle.rulebook.specs.Tests.{by-test}
+use Rattle.rulebook.specs.Tests.{and-both, by-test}
+use Rattle.rules.specs.Facts.{live-stood}
+use Rattle.rules.specs.Rules.{Rules}
+use Rattle.theorems.specs.Invariant.Calls.{is-live}
 use Rattle.theorems.specs.Invariant.Shape.{Shape}
 use Rattle.bridge.specs.Searches.{first-good, first-lowest, first-same, good-if, isBad, isNone, row-search}
 use Rattle.acts.specs.declared.Found.the-variants as found
@@ -98,12 +101,20 @@ module _ (s : State) (sh : Shape s) where
 
   -- ---- the starts and release
 
-  live-is : (h : ℕ) → liveIn (sightOf s) h ≡ (if liveHandle s h then live.On (slotAt s (slotOf h)) else live.Not 7)
+  -- by rule 2 a live handle stands in the pool
+  placed-is : Rules s → (j : ℕ) → isLive (slotAt s j .status) ≡ true → placed (s .sizes) (slotAt s j) ≡ live.On (slotAt s j)
+  unfolding placed
+  placed-is R j l = let q = live-stood s R j (is-live _ l) in rw (lt-ltb (slotAt s j .block) (s .sizes .b) (q .in-b), le-leb (slotAt s j .number) (s .sizes .n) (q .at-most-n))
+
+  live-is : Rules s → (h : ℕ) → liveIn (sightOf s) h ≡ (if liveHandle s h then live.On (slotAt s (slotOf h)) else live.Not 7)
   unfolding liveIn liveRow sightOf liveHandle
-  live-is h =
+  live-is R h =
       by-test (leb (s .sizes .h) (slotOf h))
       (λ e. rw (e, le-ltb (slotOf h) (s .sizes .h) (leb-true (s .sizes .h) (slotOf h) e)))
-      (λ e. rw (e, lt-ltb (slotOf h) (s .sizes .h) (leb-false (s .sizes .h) (slotOf h) e)))
+      (λ e. rw (e, lt-ltb (slotOf h) (s .sizes .h) (leb-false (s .sizes .h) (slotOf h) e))
+      (by-test (isLive (slotAt s (slotOf h) .status) && eqb (slotAt s (slotOf h) .serial) (serialOf h))
+      (λ c. rw (c, placed-is R (slotOf h) (and-both _ _ c .0)))
+      (λ c. rw c)))
 
   ready-is : (t : ℕ) → readyIn (sightOf s) t ≡ startable s t
   unfolding readyIn readyRow sightOf startable
@@ -114,17 +125,17 @@ module _ (s : State) (sh : Shape s) where
   start-or t a r h = ap (λ (n : ℕ). acted s (if not (eqb n 0) then refused n else a)) (ready-is t) ∙ refuse-or s (not (eqb (startable s t) 0)) (startable s t) a r (λ _. h)
 
   module _ (t h i v : ℕ) where
-    pub planned-get : acted s (planGet (sightOf s) t h i) ≡ startGet s t h i
+    pub planned-get : Rules s → acted s (planGet (sightOf s) t h i) ≡ startGet s t h i
     unfolding planGet startGet getOn sightOf begun acted touched seated turned
-    planned-get = start-or t _ _ (ap (λ (x : Live). acted s (getOn x (sightOf s) t h i)) (live-is h) ∙ on (liveHandle s h))
+    planned-get R = start-or t _ _ (ap (λ (x : Live). acted s (getOn x (sightOf s) t h i)) (live-is R h) ∙ on (liveHandle s h))
       where
         on : (b : Bool) → acted s (getOn (if b then live.On (slotAt s (slotOf h)) else live.Not 7) (sightOf s) t h i) ≡ (if not b then (s, reply.Refused 7) else if leb (s .sizes .n) i then (s, reply.Refused 8) else (withTask s t (begun s h (stage.Getting reading.Guess) i 0 0 0), reply.Quiet))
         on false = refl
         on true = refuse-or s (leb (s .sizes .n) i) 8 _ _ (λ _. refl)
 
-    pub planned-page : acted s (planPage (sightOf s) t h i v) ≡ startPage s t h i v
+    pub planned-page : Rules s → acted s (planPage (sightOf s) t h i v) ≡ startPage s t h i v
     unfolding planPage startPage pageOn sightOf begun acted touched seated turned
-    planned-page = start-or t _ _ (ap (λ (x : Live). acted s (pageOn x (sightOf s) t h i v)) (live-is h) ∙ on (liveHandle s h))
+    planned-page R = start-or t _ _ (ap (λ (x : Live). acted s (pageOn x (sightOf s) t h i v)) (live-is R h) ∙ on (liveHandle s h))
       where
         on : (b : Bool) → acted s (pageOn (if b then live.On (slotAt s (slotOf h)) else live.Not 7) (sightOf s) t h i v) ≡ (if not b then (s, reply.Refused 7) else if eqb v 0 || ltb (s .sizes .n) (i + v) then (s, reply.Refused 8) else (withTask s t (begun s h (stage.Paging reading.Guess) i 0 (i + v) 0), reply.Quiet))
         on false = refl
@@ -143,18 +154,18 @@ module _ (s : State) (sh : Shape s) where
     unfolding planNew startNew newOn
     planned-new = start-or t _ _ (reserve-or (λ (j : ℕ). maker v j) (λ (x : Found). newOn x (sightOf s) t v) refl (λ j. refl))
 
-    pub planned-set : acted s (planSet (sightOf s) t h i v) ≡ startSet s t h i v
+    pub planned-set : Rules s → acted s (planSet (sightOf s) t h i v) ≡ startSet s t h i v
     unfolding planSet startSet setOn setAt begun sightOf
-    planned-set = start-or t _ _ (ap (λ (x : Live). acted s (setOn x (sightOf s) t h i v)) (live-is h) ∙ on (liveHandle s h))
+    planned-set R = start-or t _ _ (ap (λ (x : Live). acted s (setOn x (sightOf s) t h i v)) (live-is R h) ∙ on (liveHandle s h))
       where
         on : (b : Bool) → acted s (setOn (if b then live.On (slotAt s (slotOf h)) else live.Not 7) (sightOf s) t h i v)
             ≡ (if not b then (s, reply.Refused 7) else if leb (s .sizes .n) i then (s, reply.Refused 8) else if noSlot s then (s, reply.Refused 9) else (withTask (reserve s) t (begun s h stage.Exchange i v 0 (freeSlot s)), reply.Quiet))
         on false = acted-refused s 7
         on true = refuse-or s (leb (s .sizes .n) i) 8 _ _ (λ _. reserve-or (λ (j : ℕ). begun s h stage.Exchange i v 0 j) (λ (x : Found). setAt x (sightOf s) (slotAt s (slotOf h)) t h i v) refl (λ j. refl))
 
-  pub planned-release : (h : ℕ) → acted s (planRelease (sightOf s) h) ≡ release s h
+  pub planned-release : Rules s → (h : ℕ) → acted s (planRelease (sightOf s) h) ≡ release s h
   unfolding planRelease release releaseOn releaseAt acted touched seated turned
-  planned-release h = ap (λ (x : Live). acted s (releaseOn x (sightOf s) h)) (live-is h) ∙ on (liveHandle s h)
+  planned-release R h = ap (λ (x : Live). acted s (releaseOn x (sightOf s) h)) (live-is R h) ∙ on (liveHandle s h)
     where
       on : (b : Bool) → acted s (releaseOn (if b then live.On (slotAt s (slotOf h)) else live.Not 7) (sightOf s) h)
           ≡ (if not b then (s, reply.Refused 7) else if inUse s (slotOf h) then (s, reply.Refused 11) else (withSlot s (slotOf h) (freed (slotAt s (slotOf h) .serial)), reply.Quiet))

@@ -1,13 +1,12 @@
 -- What a call sees of a sound pool is the machine's state that the pool shows, wherever a call looks: its rows, and the words of its blocks.
 -- Rests on pool's view, on block's reads and on the codes in the rows.
 use Prim.Native.Nat.{_<_, ℕ}
-use mathlib.Core.Bool.{false≢true, true}
+use mathlib.Core.Bool.{true}
 use mathlib.Core.List.{List}
 use mathlib.Core.Path.{_∙_, _≡_, ap, refl, subst, sym}
 use lib.ListN.{length}
 use borrow.Author.Tests.{eq-eqb, lt-ltb}
 use Rattle.rulebook.specs.declared.Sizes.{Sizes}
-use Rattle.rulebook.specs.declared.Status.{Status}
 use Rattle.acts.specs.Sight.{Sight, sightOf}
 use Rattle.block.specs.Reads.{cell-reads, entry-reads, length-reads, version-reads}
 use Rattle.block.specs.Sound.{blockOf}
@@ -19,7 +18,7 @@ use Rattle.layout.specs.Rows.{slotSeenOf, taskRead, taskSeenOf}
 use Rattle.layout.specs.Sizing.{header-spans}
 use Rattle.layout.specs.View.{view-block-at, view-blocks, view-slot-at, view-slots, view-task-at, view-tasks}
 use Rattle.rulebook.specs.Lists.{listTo-length}
-use Rattle.rulebook.specs.State.{Block, State, blockAt, cellAt, entryAt, isLive, logAt, slotAt, stood, taskAt}
+use Rattle.rulebook.specs.State.{Block, State, blockAt, cellAt, entryAt, logAt, slotAt, stood, taskAt}
 use Rattle.theorems.specs.Invariant.Shape.{Shape, every-listTo}
 use Rattle.bridge.specs.Sound.{Sound}
 use Rattle.layout.specs.Keeps.{block-sized}
@@ -28,7 +27,6 @@ use Rattle.acts.specs.declared.TaskRow.the-variants as taskrow
 use Rattle.block.specs.declared.Looked.the-variants as looked
 use Rattle.block.specs.declared.Probed.the-variants as probed
 use Rattle.layout.specs.declared.Header.the-variants as header
-use Rattle.rulebook.specs.declared.Status.the-variants as status
 
 -- when a sight shows a state: no row is bad, nor V or a cell of any block; nor a log of a block on which a live handle stands
 pub record Shows (e : Sight) (s : State) : Type 0 where
@@ -45,12 +43,6 @@ pub shows-itself : (s : State) → Shows (sightOf s) s
 unfolding sightOf
 shows-itself s =
     record { sizes = refl; slot = λ j h. refl; task = λ t h. refl; version = λ b h. refl; cell = λ b i h q. refl; log = λ b i h q l. refl; entry = λ b i j h q l m. refl }
-
--- a handle is live, or its status is another
-pub is-live : (x : Status) → isLive x ≡ true → x ≡ status.Live
-is-live status.Free h = absurd (false≢true h)
-is-live status.Reserved h = absurd (false≢true h)
-is-live status.Live h = refl
 
 module _ (d : Sizes) (p : List ℕ) where
   abbrev s : State

@@ -18,7 +18,7 @@ use Rattle.rulebook.specs.declared.Sizes.{Sizes}
 use Rattle.rulebook.specs.declared.Slot.{Slot}
 use Rattle.rulebook.specs.declared.Task.{Task}
 use Rattle.acts.specs.Acted.{acted}
-use Rattle.acts.specs.Plans.{answers, ends, getOn, goes, liveIn, liveRow, newOn, pageOn, planGet, planNew, planPage, planRelease, planSet, readyIn, refused, releaseAt, releaseOn, reservesFor, setAt, setOn, userIn, vacantIn}
+use Rattle.acts.specs.Plans.{answers, ends, getOn, goes, liveIn, liveRow, newOn, pageOn, placed, planGet, planNew, planPage, planRelease, planSet, readyIn, refused, releaseAt, releaseOn, reservesFor, setAt, setOn, userIn, vacantIn}
 use Rattle.acts.specs.Sight.{Sight, sightOf}
 use Rattle.layout.specs.Calls.{calledIn, releaseIn, startGetIn, startNewIn, startPageIn, startSetIn}
 use Rattle.layout.specs.Header.{headerOf}
@@ -127,11 +127,13 @@ module _ {d : Sizes} {p : List ℕ} (S : Sound d p) where
   release-at h q x found.None = quiet-act (slot.To (slotOf h) _) task.Same _ (lt-ltb _ _ q) refl (λ l. absurd (false≢true l)) tt
 
   release-act : (h : ℕ) → Doable d p (planRelease f h)
-  unfolding planRelease releaseOn liveIn liveRow sightOf viewOf
+  unfolding planRelease releaseOn liveIn liveRow placed sightOf viewOf
   release-act h =
       if-case (λ (x : Live). Doable d p (releaseOn x f h)) (leb (d .h) (slotOf h)) (λ _. answers-act _) (λ e.
       if-case (λ (x : Live). Doable d p (releaseOn x f h)) (isLive (slotAt s (slotOf h) .status) && eqb (slotAt s (slotOf h) .serial) (serialOf h))
+      (λ _. if-case (λ (x : Live). Doable d p (releaseOn x f h)) (ltb (slotAt s (slotOf h) .block) (d .b) && leb (slotAt s (slotOf h) .number) (d .n))
       (λ _. release-at h (leb-false _ _ e) _ (userIn f (slotOf h))) (λ _. answers-act _))
+      (λ _. answers-act _))
 
   -- ---- the bridge
 
@@ -154,16 +156,16 @@ module _ {d : Sizes} {p : List ℕ} (S : Sound d p) where
 
   pub get-bridged : (t h i : ℕ) → Bridged d (startGetIn p t h i) (startGet (viewOf d p) t h i)
   unfolding startGetIn call
-  get-bridged t h i = called (λ e. planGet e t h i) (Get t h i) (get-alike W sh t h i 0) (get-act t h i 0) (planned-get s sh t h i 0)
+  get-bridged t h i = called (λ e. planGet e t h i) (Get t h i) (get-alike W sh t h i 0) (get-act t h i 0) (planned-get s sh t h i 0 (S .rules))
 
   pub set-bridged : (t h i v : ℕ) → Bridged d (startSetIn p t h i v) (startSet (viewOf d p) t h i v)
   unfolding startSetIn call
-  set-bridged t h i v = called (λ e. planSet e t h i v) (Set t h i v) (set-alike W sh t h i v) (set-act t h i v) (planned-set s sh t h i v)
+  set-bridged t h i v = called (λ e. planSet e t h i v) (Set t h i v) (set-alike W sh t h i v) (set-act t h i v) (planned-set s sh t h i v (S .rules))
 
   pub page-bridged : (t h from m : ℕ) → Bridged d (startPageIn p t h from m) (startPage (viewOf d p) t h from m)
   unfolding startPageIn call
-  page-bridged t h from m = called (λ e. planPage e t h from m) (Page t h from m) (page-alike W sh t h from m) (page-act t h from m) (planned-page s sh t h from m)
+  page-bridged t h from m = called (λ e. planPage e t h from m) (Page t h from m) (page-alike W sh t h from m) (page-act t h from m) (planned-page s sh t h from m (S .rules))
 
   pub release-bridged : (h : ℕ) → Bridged d (releaseIn p h) (release (viewOf d p) h)
   unfolding releaseIn call
-  release-bridged h = called (λ e. planRelease e h) (Release h) (release-alike W sh h) (release-act h) (planned-release s sh h)
+  release-bridged h = called (λ e. planRelease e h) (Release h) (release-alike W sh h) (release-act h) (planned-release s sh (S .rules) h)

@@ -5,7 +5,7 @@ use mathlib.Core.Bool.{_&&_, not}
 use mathlib.Core.List.{List}
 use mathlib.Core.Path.{_∙_, _≡_, ap, refl, subst, sym}
 use native.Mathlib.Omega.{arith}
-use lib.Dec.{eqb, leb}
+use lib.Dec.{eqb, leb, ltb}
 use borrow.Author.Tests.{ne-eqb}
 use Rattle.acts.specs.declared.Found.{Found}
 use Rattle.acts.specs.declared.Live.{Live}
@@ -13,7 +13,7 @@ use Rattle.acts.specs.declared.Said.{Said}
 use Rattle.acts.specs.declared.SlotRow.{SlotRow}
 use Rattle.rulebook.specs.declared.Sizes.{Sizes}
 use Rattle.rulebook.specs.declared.Slot.{Slot}
-use Rattle.acts.specs.Plans.{deadOf, earlierOf, inUseOf, liveIn, liveRow, planRelease, refused, releaseAt, releaseOn, userIn}
+use Rattle.acts.specs.Plans.{deadOf, earlierOf, inUseOf, liveIn, liveRow, placed, planRelease, refused, releaseAt, releaseOn, userIn}
 use Rattle.acts.specs.Said.{saidOf, toldIn}
 use Rattle.layout.specs.Pool.{actedIn, appliedIn, putSlot, seatedIn, sight, slotSeen, touchNear, touchedIn, touchedNear, turnedIn}
 use Rattle.rulebook.specs.Sizes.{serialOf, slotOf}
@@ -51,12 +51,19 @@ module _ (p : List ℕ) (d : Sizes) where
   -- ---- release
 
   module _ (h : ℕ) (s : Said) where
-    row-not-live : (y : SlotRow) (m : ℕ) → live.Not m ≡ liveRow y h → m ≡ 0 → ⊥
+    not-placed : (x : Slot) (m : ℕ) → live.Not m ≡ placed d x → m ≡ 0 → ⊥
+    unfolding placed
+    not-placed x m e z =
+        by-test (ltb (x .block) (d .b) && leb (x .number) (d .n))
+        (λ b. let q : live.Not m ≡ live.On x = (rw b at e) in let u : _≡_ {A = ℕ} 0 1 = cc in omega arith)
+        (λ b. let q : live.Not m ≡ live.Not 2 = (rw b at e) in let u : m ≡ 2 = cc in omega arith)
+
+    row-not-live : (y : SlotRow) (m : ℕ) → live.Not m ≡ liveRow d y h → m ≡ 0 → ⊥
     unfolding liveRow
     row-not-live slotrow.Bad m e z = let q : m ≡ 2 = cc in omega arith
     row-not-live (slotrow.Row x) m e z =
         by-test (isLive (x .status) && eqb (x .serial) (serialOf h))
-        (λ b. let q : live.Not m ≡ live.On x = (rw b at e) in let u : _≡_ {A = ℕ} 0 1 = cc in omega arith)
+        (λ b. not-placed x m (rw b at e) z)
         (λ b. let q : live.Not m ≡ live.Not 7 = (rw b at e) in let u : m ≡ 7 = cc in omega arith)
 
     -- a handle that is not live is refused by a number

@@ -105,7 +105,7 @@ module _ (p : List ℕ) (d : Sizes) where
     unfolding liveIn sight
     live-none l = rw (le-leb (d .h) (slotOf h) l)
 
-    pub live-is : (r : Live) (x : SlotRow) → slotOf h < d .h → x ≡ slotSeen p d (slotOf h) → r ≡ liveRow x h → r ≡ liveIn (sight p d) h
+    pub live-is : (r : Live) (x : SlotRow) → slotOf h < d .h → x ≡ slotSeen p d (slotOf h) → r ≡ liveRow d x h → r ≡ liveIn (sight p d) h
     unfolding liveIn sight
     live-is r x l e f = f ∙ rw (lt-leb (d .h) (slotOf h) l, e)
 

@@ -57,7 +57,7 @@ fn live_slot(words: &[u32], d: Sizes, h: u32) -> Live
         return Live::Not(7);
     }
     let x = pool::see_slot(words, d, j);
-    live_row(x, h)
+    live_row(x, d, h)
 }
 
 // Slot j is reserved for the task k, which is started.

@@ -44,7 +44,7 @@ is-free Free h = refl
 is-free Reserved h = absurd (false≢true h)
 is-free Live h = absurd (false≢true h)
 
-is-live : (x : Status) → isLive x ≡ true → x ≡ Live
+pub is-live : (x : Status) → isLive x ≡ true → x ≡ Live
 is-live Free h = absurd (false≢true h)
 is-live Reserved h = absurd (false≢true h)
 is-live Live h = refl

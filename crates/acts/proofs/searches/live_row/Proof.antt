@@ -10,6 +10,7 @@ live-row-spec =
     (λ c. search (needs, rows))
     (λ c. search (needs, rows))
     (λ c κs. search (needs, rows))
+    (λ c κs. search (needs, rows))
     (λ c. search (needs, rows))
     (λ c. search (needs, rows))
     (λ c. search (needs, rows)))
