@@ -1,25 +1,21 @@
 -- For each function on rows, one law for each way out.
 -- Rests on Plans and Looks.
-use Prim.Native.Nat.{_+_, _<_, _≤_, ℕ}
+use Prim.Native.Nat.{_+_, _<_, ℕ}
 use mathlib.Core.Bool.{Bool, _&&_, false, true}
 use mathlib.Core.Path.{_∙_, _≡_, sym}
-use lib.Dec.{eqb, leb, ltb}
-use borrow.Author.Tests.{le-leb, le-ltb, lt-leb, lt-ltb}
+use lib.Dec.{eqb, ltb}
 use Rattle.block.specs.declared.Looked.{Looked}
 use Rattle.block.specs.declared.Probed.{Probed}
 use Rattle.rulebook.specs.declared.Entry.{Entry}
 use Rattle.rulebook.specs.declared.Reply.{Reply}
-use Rattle.rulebook.specs.declared.Sizes.{Sizes}
 use Rattle.rulebook.specs.declared.Slot.{Slot}
 use Rattle.rulebook.specs.declared.Task.{Task}
-use Rattle.rulebook.specs.Sizes.{lastSerial, serialOf}
-use Rattle.rulebook.specs.State.{busy, count, fills, isFree, isLive, names}
-use Rattle.rulebook.specs.Steps.{probed}
+use Rattle.rulebook.specs.Sizes.{lastSerial}
+use Rattle.rulebook.specs.State.{fills, isFree, isLive, names}
 use Rattle.acts.specs.Looks.{liveAt, plus, reports, seesRow, shows, showsEntry}
-use Rattle.acts.specs.Plans.{filler, foundIf, liveRow, naming, placed, readyRow, standing, unheld, vacant}
+use Rattle.acts.specs.Plans.{filler, foundIf, naming, standing, unheld, vacant}
 use Rattle.acts.specs.declared.Counted.{Counted}
 use Rattle.acts.specs.declared.Found.{Found}
-use Rattle.acts.specs.declared.Live.{Live}
 use Rattle.acts.specs.declared.SlotRow.{SlotRow}
 use Rattle.acts.specs.declared.TaskRow.{TaskRow}
 use Rattle.block.specs.declared.Looked.the-variants as looked
@@ -27,7 +23,6 @@ use Rattle.block.specs.declared.Probed.the-variants as probed
 use Rattle.acts.specs.declared.SlotRow.the-variants as slotrow
 use Rattle.acts.specs.declared.TaskRow.the-variants as taskrow
 use Rattle.acts.specs.declared.Found.the-variants as found
-use Rattle.acts.specs.declared.Live.the-variants as live
 use Rattle.acts.specs.declared.Counted.the-variants as count
 use Rattle.rulebook.specs.declared.Reply.the-variants as reply
 
@@ -136,32 +131,6 @@ module _ (x : SlotRow) (j : ℕ) where
   unfolding liveAt
   live-row y p r e f g = g ∙ rw (e, f)
 
-module _ (d : Sizes) (x : Slot) where
-  pub place-none : d .b ≤ x .block → live.Not 2 ≡ placed d x
-  unfolding placed
-  place-none l = rw (le-ltb (x .block) (d .b) l)
-
-  pub place-above : x .block < d .b → d .n < x .number → live.Not 2 ≡ placed d x
-  unfolding placed
-  place-above l m = rw (lt-ltb (x .block) (d .b) l, lt-leb (x .number) (d .n) m)
-
-  pub place-there : x .block < d .b → x .number ≤ d .n → live.On x ≡ placed d x
-  unfolding placed
-  place-there l m = rw (lt-ltb (x .block) (d .b) l, le-leb (x .number) (d .n) m)
-
-module _ (d : Sizes) (x : SlotRow) (h : ℕ) where
-  pub on-bad : x ≡ slotrow.Bad → live.Not 2 ≡ liveRow d x h
-  unfolding liveRow
-  on-bad e = rw e
-
-  pub on-yes : (y : Slot) (p : Bool) (r : Live) → x ≡ slotrow.Row y → p ≡ (isLive (y .status) && eqb (y .serial) (serialOf h)) → p ≡ true → r ≡ placed d y → r ≡ liveRow d x h
-  unfolding liveRow
-  on-yes y p r e f g q = q ∙ rw (e, sym f ∙ g)
-
-  pub on-no : (y : Slot) (p : Bool) → x ≡ slotrow.Row y → p ≡ (isLive (y .status) && eqb (y .serial) (serialOf h)) → p ≡ false → live.Not 7 ≡ liveRow d x h
-  unfolding liveRow
-  on-no y p e f g = rw (e, sym f ∙ g)
-
 -- ---- rows of tasks
 
 module _ (x : TaskRow) (t : ℕ) where
@@ -180,19 +149,6 @@ module _ (x : TaskRow) (t : ℕ) where
   pub filler-row : (b : ℕ) (k : Task) (p : Bool) (r : Found) → x ≡ taskrow.Row k → p ≡ (fills (k .stage) && eqb (k .target) b) → r ≡ foundIf p t → r ≡ filler x b t
   unfolding filler
   filler-row b k p r e f g = g ∙ rw (e, f)
-
-module _ (x : TaskRow) where
-  pub ready-bad : x ≡ taskrow.Bad → 2 ≡ readyRow x
-  unfolding readyRow
-  ready-bad e = rw e
-
-  pub ready-busy : (k : Task) (p : Bool) → x ≡ taskrow.Row k → p ≡ busy (k .stage) → p ≡ true → 5 ≡ readyRow x
-  unfolding readyRow
-  ready-busy k p e f g = rw (e, sym f ∙ g)
-
-  pub ready-idle : (k : Task) (p : Bool) → x ≡ taskrow.Row k → p ≡ busy (k .stage) → p ≡ false → 0 ≡ readyRow x
-  unfolding readyRow
-  ready-idle k p e f g = rw (e, sym f ∙ g)
 
 -- ---- counts
 
@@ -228,4 +184,4 @@ pub last-serial : (x : Slot) (b : Bool) → b ≡ ltb (x .serial) 16777215 → b
 unfolding lastSerial
 last-serial x b e = e
 
-pub ruleset rows = (and-yes, and-no, found-yes, found-no, unheld-bad, unheld-not, unheld-is, sum-bad, sum-more, sum-same, show-bad, show-word, show-none, show-entry, see-bad, see-row, report-bad, report-of, standing-bad, standing-row, vacant-bad, vacant-row, live-bad, live-row, place-none, place-above, place-there, on-bad, on-yes, on-no, naming-bad, naming-row, filler-bad, filler-row, ready-bad, ready-busy, ready-idle, plus-bad, plus-of, count-below, reports-bad, reports-of, last-serial)
+pub ruleset rows = (and-yes, and-no, found-yes, found-no, unheld-bad, unheld-not, unheld-is, sum-bad, sum-more, sum-same, show-bad, show-word, show-none, show-entry, see-bad, see-row, report-bad, report-of, standing-bad, standing-row, vacant-bad, vacant-row, live-bad, live-row, naming-bad, naming-row, filler-bad, filler-row, plus-bad, plus-of, count-below, reports-bad, reports-of, last-serial)

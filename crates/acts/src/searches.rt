@@ -11,7 +11,6 @@ use super::tasks::names_handle;
 use block::Looked;
 use block::Probed;
 use rulebook::Reply;
-use rulebook::Sizes;
 use rulebook::Slot;
 use rulebook::Task;
 ghost use mathlib.Core.Path.{_≡_};
@@ -20,7 +19,7 @@ ghost use Prim.Native.Nat.{_<_, _/_};
 ghost use lib.Dec.{ltb, eqb};
 ghost use Rattle.rulebook.specs.Sizes.{lastSerial, serialOf};
 ghost use Rattle.rulebook.specs.State.{isLive, isFree, names, fills};
-ghost use Rattle.acts.specs.Plans.{foundIf, standing, vacant, naming, filler, unheld, placed, liveRow, earlierOf, deadOf, inUseOf};
+ghost use Rattle.acts.specs.Plans.{foundIf, standing, vacant, naming, filler, unheld, earlierOf, deadOf, inUseOf};
 ghost use Rattle.acts.specs.Looks.{shows, showsEntry, unseen, seesRow, plus, liveAt, reports};
 ghost use Rattle.acts.specs.Rows.{isNone, CountBelow};
 
@@ -153,7 +152,8 @@ pub fn unheld(x: Found, b: u32) -> Found
 
 // ---- before a start
 
-fn carries(x: Slot, h: u32) -> bool
+// The row carries the handle h, live.
+pub fn carries(x: Slot, h: u32) -> bool
     ensures { λ r. ⌜ r ≡ isLive (x .status) && eqb (x .serial) (serialOf h) ⌝ }
 {
     let s = x.status;
@@ -161,35 +161,6 @@ fn carries(x: Slot, h: u32) -> bool
         x.serial == h / 256
     } else {
         false
-    }
-}
-
-// A live handle's slot, where its block and its number can be.
-fn placed(x: Slot, d: Sizes) -> Live
-    ensures { λ r. ⌜ r ≡ placed d x ⌝ }
-{
-    if d.b <= x.block {
-        return Live::Not(2);
-    }
-    if d.n < x.number {
-        return Live::Not(2);
-    }
-    Live::On(x)
-}
-
-// The slot of the handle h, where it is live with that serial.
-pub fn live_row(x: SlotRow, d: Sizes, h: u32) -> Live
-    ensures { λ r. ⌜ r ≡ liveRow d x h ⌝ }
-{
-    match x {
-        SlotRow::Bad => Live::Not(2),
-        SlotRow::Row(y) => {
-            if carries(y, h) {
-                placed(y, d)
-            } else {
-                Live::Not(7)
-            }
-        }
     }
 }
 

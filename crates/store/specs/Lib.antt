@@ -1,4 +1,5 @@
-pub mod Started
-pub mod Releases
 pub mod Calls
 pub mod Determined
+pub mod Named
+pub mod Releases
+pub mod Started

@@ -26,7 +26,8 @@ use Rattle.acts.specs.declared.SlotRow.the-variants as slotrow
 use Rattle.acts.specs.declared.TaskChange.the-variants as task
 use Rattle.acts.specs.declared.Touch.the-variants as touch
 use Rattle.rulebook.specs.declared.Reply.the-variants as reply
-use Rattle.store.specs.Started.{does, live-there, refuses}
+use Rattle.store.specs.Named.{live-there}
+use Rattle.store.specs.Started.{does, refuses}
 
 -- ---- a release
 

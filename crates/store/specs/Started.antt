@@ -100,23 +100,6 @@ module _ (p : List ℕ) (d : Sizes) where
     unfolding readyIn sight
     ready-there n e z = by-test (leb (d .t) t) (λ o. let q : 0 ≡ 4 = sym z ∙ e ∙ rw o in absurd (omega arith)) (λ o. leb-false (d .t) t o)
 
-  module _ (h : ℕ) where
-    pub live-none : d .h ≤ slotOf h → live.Not 7 ≡ liveIn (sight p d) h
-    unfolding liveIn sight
-    live-none l = rw (le-leb (d .h) (slotOf h) l)
-
-    pub live-is : (r : Live) (x : SlotRow) → slotOf h < d .h → x ≡ slotSeen p d (slotOf h) → r ≡ liveRow d x h → r ≡ liveIn (sight p d) h
-    unfolding liveIn sight
-    live-is r x l e f = f ∙ rw (lt-leb (d .h) (slotOf h) l, e)
-
-    -- a live handle's slot is there
-    pub live-there : (r : Live) (y : Slot) → r ≡ liveIn (sight p d) h → r ≡ live.On y → slotOf h < d .h
-    unfolding liveIn sight
-    live-there r y e f =
-        by-test (leb (d .h) (slotOf h))
-        (λ b. let q : live.On y ≡ live.Not 7 = sym f ∙ e ∙ rw b in let z : _≡_ {A = ℕ} 0 1 = cc in absurd (omega arith))
-        (λ b. leb-false (d .h) (slotOf h) b)
-
   -- ---- a slot is reserved
 
   module _ (t j : ℕ) (k : Task) (s : Said) (y : SlotRow) (e : y ≡ slotSeen p d j) where
@@ -278,8 +261,8 @@ module _ (p : List ℕ) (d : Sizes) where
           unfolding planPage pageOn
           page-dead v = refuses m s _ g (ap (λ (z : Live). pageOn z (sight p d) t h i v) (sym r ∙ f) ∙ readied _)
 
-pub ruleset asks = (ready-none, ready-idle, ready-busy, ready-bad, live-none, live-is)
+pub ruleset asks = (ready-none, ready-idle, ready-busy, ready-bad)
 
 pub ruleset reserves = (reserve-bad, reserve-is, reserve-spans, vacant-there, new-bad, new-none, new-at, set-bad, set-none, set-at)
 
-pub ruleset starts = (ready-there, live-there, get-beyond, get-starts, set-beyond, set-starts, page-none, page-large, page-past, page-starts, new-not, get-not, set-not, page-not, new-is, get-is, set-is, page-is, get-dead, set-dead, page-dead)
+pub ruleset starts = (ready-there, get-beyond, get-starts, set-beyond, set-starts, page-none, page-large, page-past, page-starts, new-not, get-not, set-not, page-not, new-is, get-is, set-is, page-is, get-dead, set-dead, page-dead)

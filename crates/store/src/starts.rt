@@ -3,7 +3,7 @@ use acts::Found;
 use acts::Live;
 use acts::Said;
 use acts::SlotRow;
-use acts::searches::live_row;
+use acts::searches::carries;
 use acts::searches::release_refusal;
 use acts::starts::begun_on;
 use acts::starts::getter;
@@ -21,7 +21,7 @@ use work::searches::user;
 use work::searches::vacancy;
 ghost use mathlib.Core.Path.{_≡_};
 ghost use Prim.Native.Nat.{_%_, _<_};
-ghost use Rattle.acts.specs.Plans.{getOn, liveIn, newOn, pageOn, planGet, planNew, planPage, planRelease, planSet, readyIn, reservesFor, setAt, setOn, vacantIn};
+ghost use Rattle.acts.specs.Plans.{getOn, liveIn, newOn, pageOn, placed, planGet, planNew, planPage, planRelease, planSet, readyIn, reservesFor, setAt, setOn, vacantIn};
 ghost use Rattle.acts.specs.Said.{toldIn};
 ghost use Rattle.layout.specs.Places.{Spans};
 ghost use Rattle.layout.specs.Pool.{appliedIn, sight, slotSeen};
@@ -47,6 +47,20 @@ fn ready(words: &[u32], d: Sizes, t: u32) -> u32
     2
 }
 
+// A live handle's slot, where its block and its number can be.
+fn placed(words: &[u32], d: Sizes, x: Slot) -> Live
+    requires { ⌜ Spans d (now words) ⌝ }
+    ensures { λ r. ⌜ r ≡ placed d x ⌝ }
+{
+    if !pool::near(words, d, x.block) {
+        return Live::Not(2);
+    }
+    if d.n < x.number {
+        return Live::Not(2);
+    }
+    Live::On(x)
+}
+
 // The slot of the handle h, where it is live with that serial.
 fn live_slot(words: &[u32], d: Sizes, h: u32) -> Live
     requires { ⌜ Spans d (now words) ⌝ }
@@ -56,8 +70,13 @@ fn live_slot(words: &[u32], d: Sizes, h: u32) -> Live
     if d.h <= j {
         return Live::Not(7);
     }
-    let x = pool::see_slot(words, d, j);
-    live_row(x, d, h)
+    let SlotRow::Row(x) = pool::see_slot(words, d, j) else {
+        return Live::Not(2);
+    };
+    if !carries(x, h) {
+        return Live::Not(7);
+    }
+    placed(words, d, x)
 }
 
 // Slot j is reserved for the task k, which is started.
