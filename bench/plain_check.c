@@ -58,7 +58,7 @@ static uint32_t version_of(uint32_t *block, uint32_t n, uint32_t i, uint32_t j) 
 
 static int log_sound(uint32_t *block, uint32_t n, uint32_t i, uint8_t *seen) {
     uint32_t m = *length_at(block, n, i);
-    if (m > n) return 0;
+    if (m > block[0]) return 0; /* more than there are versions below V */
     for (uint32_t j = 0; j < m; j++) {
         if (place_of(block, n, i, j) >= 2 * n) return 0;
         uint32_t v = version_of(block, n, i, j);

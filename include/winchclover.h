@@ -47,7 +47,7 @@ enum winch_refusal {
     WINCH_ACCEPTED = 0,
     WINCH_NO_STORE = 1,      /* the pool's first words do not describe it */
     WINCH_DAMAGED = 2,       /* a row, block or log that has to be read is not sound; never on a kept store */
-    WINCH_BAD_SIZES = 3,     /* open: a size beyond its limits, or no room for one block */
+    WINCH_BAD_SIZES = 3,     /* open: a size beyond its limits, a pool above 4,294,967,295 words, or no room for one block */
     WINCH_NO_TASK = 4,       /* the task number is T or above */
     WINCH_TASK_BUSY = 5,     /* start: the task is busy */
     WINCH_TASK_IDLE = 6,     /* step: the task is idle */

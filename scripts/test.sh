@@ -5,7 +5,7 @@ cd "$(dirname "$0")/.."
 scripts/setup.sh build
 archive=plain out=target/c/plain
 if [ "${1:-}" != plain ]; then
-    archive=$(scripts/archive.sh)
+    archive=$(scripts/archive.sh) || { echo '0 passed, 1 failed'; exit 1; }
     out=target/c
 fi
 mkdir -p "$out"
@@ -23,12 +23,14 @@ one() {
     if "$@" > "$out/one.log" 2>&1; then tally "$name" 1 0; else cat "$out/one.log"; tally "$name" 0 1; fi
 }
 
-# a program whose last line is 'N passed, M failed'; one that dies or says nothing has failed once
+# a program whose last line is 'N passed, M failed'; one that does not compile, dies or says nothing has failed once
 program() {
     local name=$1 status=0 last
     shift
-    scripts/cc.sh "$out/$name" "$archive" "tests/$name.c" tests/harness.c tests/calls.c ${beside:-}
-    scripts/run.sh "$archive" "$out/$name" "$@" > "$out/$name.log" 2>&1 || status=$?
+    {
+        scripts/cc.sh "$out/$name" "$archive" "tests/$name.c" tests/harness.c tests/calls.c ${beside:-} &&
+            scripts/run.sh "$archive" "$out/$name" "$@"
+    } > "$out/$name.log" 2>&1 || status=$?
     last=$(tail -n 1 "$out/$name.log")
     sed '$d' "$out/$name.log"
     if [[ $last =~ ^([0-9]+)\ passed,\ ([0-9]+)\ failed$ ]] && { [ $status -eq 0 ] || [ "${BASH_REMATCH[2]}" != 0 ]; }; then
@@ -45,10 +47,19 @@ example_as_told() {
         diff examples/order_list.txt "$out/order_list.txt"
 }
 
+# what README.md says of its page of C
+readme_as_told() {
+    sed -n '/^```c$/,/^```$/p' README.md | grep -v '^```' > "$out/readme.c"
+    { echo 'old cell 7: 100' && printf 'cell %d: 100\n' {0..23}; } > "$out/readme.expected"
+    scripts/cc.sh "$out/readme" "$archive" "$out/readme.c" && scripts/run.sh "$archive" "$out/readme" > "$out/readme.txt" &&
+        diff "$out/readme.expected" "$out/readme.txt"
+}
+
 one 'header as C99' scripts/header.sh c c99
 one 'header as C++17' scripts/header.sh c++ c++17
 program sessions
-program functions
+beside=tests/small.c program functions
+beside=tests/small.c program broken
 program orders
 if [ "$archive" = plain ]; then
     program damage 0
@@ -58,5 +69,6 @@ else
     beside='tests/plain_calls.c bench/plain.c bench/plain_check.c' program both
 fi
 one 'the example prints what it should' example_as_told
+one "README's page of C prints what it should" readme_as_told
 echo "$passed passed, $failed failed"
 [ $failed -eq 0 ]

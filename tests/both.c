@@ -2,6 +2,8 @@
  * pools is the same after every call. Of damaged copies both checks name the same rule. */
 #include "harness.h"
 
+#include "layout.h"
+
 enum { ROOM = 18, KEPT_HANDLES = 24 };
 
 uint32_t make_plain_call(struct call k, uint32_t *pool, size_t words, uint32_t *answer, size_t room);
@@ -24,11 +26,28 @@ static uint32_t ask(struct call k) {
     return refusal;
 }
 
-/* a copy of the pool with up to three words overwritten; what the archive's check says of it, the one by hand says too */
+/* A block with V = N + 1 has N entries: one more, of version N, breaks rule 4 and none before it, which random words hardly do. It is put at
+ * the arena's last place, which no log holds, and in a log of 0 or 1 entries, where it opens a chunk. */
+static void add_entries(void) {
+    for (uint32_t k = 0; k < b; k++) {
+        uint32_t *block = block_at(damaged, k), i = 0;
+        while (i + 1 < n && *length_at(block, n, i) > 1) i++;
+        uint32_t m = *length_at(block, n, i);
+        if (block[0] != n + 1 || m > 1) continue;
+        *length_at(block, n, i) = m + 1;
+        *base_at(block, n, i, chunk_of(m)) = 2 * n - 1;
+        place_at(block, n, 2 * n - 1)->version = n;
+    }
+}
+
+/* a copy of the pool with up to three words overwritten, or with entries added; what the archive's check says of it, the one by hand says too */
 static void compare_checks(void) {
     struct call k = {CHECK, 0, 0, 0, 0};
     memcpy(damaged, pool, words * sizeof *pool);
-    damage(damaged, (struct sizes){n, h, t, b}, 3);
+    if (one_in(8))
+        add_entries();
+    else
+        damage(damaged, (struct sizes){n, h, t, b}, 3);
     uint32_t refusal = make_call(k, damaged, words, answer, ROOM), second = make_plain_call(k, damaged, words, plain_answer, ROOM);
     EXPECT(refusal == 0 && second == 0 && answer[0] < 8);
     if (!EXPECT(answer[0] == plain_answer[0])) {
@@ -135,6 +154,11 @@ static void run(uint32_t number, uint32_t count) {
 
 int main(void) {
     for (uint32_t number = 0; number < 70; number++) run(number, 3000);
+    begin_case("every refusal that a kept store can give, and every answer of the check");
+    for (int r = 3; r <= 12; r++) EXPECT(met[r] > 100);
+    EXPECT(met[1] == 0 && met[2] == 0 && met[15] == 0);
+    for (int r = 0; r < 8; r++) EXPECT(broken[r] > 50);
+    end_case();
     printf("%lu calls; refused", (unsigned long)calls);
     for (int r = 1; r < 16; r++)
         if (met[r]) printf(" %d: %lu", r, (unsigned long)met[r]);

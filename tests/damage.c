@@ -193,6 +193,14 @@ static void above_the_most(void) {
     end_case();
 }
 
+/* 1 and 2 come of damage alone */
+static void every_refusal(uint32_t most) {
+    begin_case("every refusal is met");
+    for (int r = 3; r <= 12; r++) EXPECT(met[r] > 100);
+    EXPECT(most ? met[1] > 100 && met[2] > 100 : met[1] == 0 && met[2] == 0);
+    end_case();
+}
+
 static void print_met(void) {
     printf("%lu calls; refused", (unsigned long)calls);
     for (int r = 1; r < 16; r++)
@@ -206,6 +214,7 @@ int main(int count, char **arguments) {
     page_words = (size_t)sysconf(_SC_PAGESIZE) / sizeof(uint32_t);
     for (uint32_t number = 0; number < 180; number++) run(&plans[number % 6], number, most);
     above_the_most();
+    every_refusal(most);
     print_met();
     return summary();
 }

@@ -8,7 +8,6 @@ use Rattle.block.specs.declared.Probed.{Probed}
 use Rattle.rulebook.specs.declared.Reply.{Reply}
 use Rattle.rulebook.specs.Sizes.{if_then_else_}
 use Rattle.rulebook.specs.State.{isLive}
-use Rattle.rulebook.specs.Steps.{counted, probed}
 use Rattle.acts.specs.Plans.{foundIf, standerIn}
 use Rattle.acts.specs.Sight.{Sight}
 use Rattle.acts.specs.declared.Counted.{Counted}

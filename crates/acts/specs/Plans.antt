@@ -8,7 +8,6 @@ use Rattle.rulebook.specs.declared.Sizes.{Sizes}
 use Rattle.rulebook.specs.declared.Slot.{Slot}
 use Rattle.rulebook.specs.declared.Stage.{Stage}
 use Rattle.rulebook.specs.declared.Task.{Task}
-use Rattle.rulebook.specs.History.{fresh, reading}
 use Rattle.rulebook.specs.Sizes.{if_then_else_, lastSerial, serialOf, slotOf}
 use Rattle.rulebook.specs.State.{busy, fills, freed, handOf, isFree, isLive, names}
 use Rattle.acts.specs.Sight.{Sight}

@@ -6,7 +6,6 @@ use Rattle.block.specs.declared.Looked.{Looked}
 use Rattle.block.specs.declared.Probed.{Probed}
 use Rattle.rulebook.specs.declared.Sizes.{Sizes}
 use Rattle.rulebook.specs.State.{State, blockAt, cellAt, entryAt, logAt, slotAt, taskAt}
-use Rattle.rulebook.specs.Steps.{probed}
 use Rattle.acts.specs.declared.SlotRow.{SlotRow}
 use Rattle.acts.specs.declared.TaskRow.{TaskRow}
 use Rattle.acts.specs.declared.SlotRow.the-variants as slot

@@ -10,14 +10,12 @@ use Rattle.rulebook.specs.declared.Progress.{Progress}
 use Rattle.rulebook.specs.declared.Reading.{Reading}
 use Rattle.rulebook.specs.declared.Stage.{Stage}
 use Rattle.rulebook.specs.declared.Task.{Task}
-use Rattle.rulebook.specs.History.{fresh, reading}
 use Rattle.rulebook.specs.Sizes.{if_then_else_, lastSerial, publicNumber}
 use Rattle.rulebook.specs.State.{freed, handOf, idle}
-use Rattle.rulebook.specs.Steps.{aimed, answer, guessed, middle, moved, probed, probedAt, searching}
+use Rattle.rulebook.specs.Steps.{aimed, answer, guessed, middle, moved, probedAt, searching}
 use Rattle.acts.specs.Sight.{Sight}
 use Rattle.acts.specs.declared.Act.{Act}
 use Rattle.acts.specs.declared.Found.{Found}
-use Rattle.acts.specs.declared.Live.{Live}
 use Rattle.acts.specs.declared.Read.{Read}
 use Rattle.acts.specs.declared.Reader.{Reader}
 use Rattle.acts.specs.declared.SlotRow.{SlotRow}
@@ -36,7 +34,7 @@ use Rattle.rulebook.specs.declared.Reading.the-variants as reading
 use Rattle.rulebook.specs.declared.Progress.the-variants as progress
 use Rattle.block.specs.declared.Looked.the-variants as looked
 use Rattle.block.specs.declared.Probed.the-variants as probed
-use Rattle.acts.specs.Plans.{after, ends, firstOf, freeIn, goes, refused, ticked}
+use Rattle.acts.specs.Plans.{after, ends, freeIn, goes, refused, ticked}
 
 -- ---- one step of a get: what follows from what it reads
 
@@ -49,7 +47,7 @@ afterVersion v L w = if eqb v L then progress.Settled w else progress.Going read
 abbrev pub afterLength : ℕ → Hand → Progress
 afterLength m w = if eqb m 0 then progress.Settled w else progress.Going reading.Probe (searching w m)
 
--- the firstOf ends where the bounds meet
+-- the search ends where the bounds meet
 abbrev pub afterBounds : Hand → Progress
 afterBounds q = if eqb (q .lo) (q .hi) then progress.Settled q else progress.Going reading.Probe q
 

@@ -4,13 +4,12 @@ use Prim.Native.Nat.{_+_, _<_, _≤_, ℕ}
 use mathlib.Core.Bool.{true}
 use mathlib.Core.Path.{_∙_, _≡_, sym}
 use native.Mathlib.Omega.{arith}
-use borrow.Author.Tests.{eq-eqb, le-leb, le-ltb, lt-leb, lt-ltb, ne-eqb}
+use borrow.Author.Tests.{eq-eqb, le-leb, lt-leb, ne-eqb}
 use Rattle.rulebook.specs.declared.Entry.{Entry}
 use Rattle.rulebook.specs.declared.Hand.{Hand}
 use Rattle.rulebook.specs.declared.Slot.{Slot}
 use Rattle.rulebook.specs.declared.Stage.{Stage}
 use Rattle.rulebook.specs.declared.Task.{Task}
-use Rattle.rulebook.specs.History.{fresh}
 use Rattle.rulebook.specs.Sizes.{slotOf}
 use Rattle.rulebook.specs.State.{handOf, idle}
 use Rattle.rulebook.specs.Steps.{middle, probedAt}
@@ -19,8 +18,6 @@ use Rattle.rulebook.specs.declared.Reading.{Reading}
 use Rattle.acts.specs.Plans.{after, begunOn, lastWord, maker, ticked}
 use Rattle.acts.specs.StepPlans.{stageFor}
 use Rattle.rulebook.specs.declared.Stage.the-variants as stage
-
-pub ruleset tests = (le-leb, lt-leb, le-ltb, lt-ltb, eq-eqb, ne-eqb)
 
 -- ---- counting
 

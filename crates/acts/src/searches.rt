@@ -15,7 +15,7 @@ use rulebook::Slot;
 use rulebook::Task;
 ghost use mathlib.Core.Path.{_≡_};
 ghost use mathlib.Core.Bool.{_&&_};
-ghost use Prim.Native.Nat.{_<_, _/_};
+ghost use Prim.Native.Nat.{_<_};
 ghost use lib.Dec.{ltb, eqb};
 ghost use Rattle.rulebook.specs.Sizes.{lastSerial, serialOf};
 ghost use Rattle.rulebook.specs.State.{isLive, isFree, names, fills};

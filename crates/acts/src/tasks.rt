@@ -7,7 +7,6 @@ use rulebook::Stage;
 use rulebook::Status;
 use rulebook::Task;
 ghost use mathlib.Core.Path.{_≡_};
-ghost use Prim.Native.Nat.{_<_};
 ghost use Rattle.rulebook.specs.State.{freed, handOf, idle, isLive, isFree, names, fills};
 ghost use Rattle.rulebook.specs.Steps.{moved, aimed, answer, guessed, searching};
 ghost use Rattle.acts.specs.Plans.{after, reservedAs, ticked};

@@ -1,7 +1,7 @@
 -- What each task at its stage has done: for each function of facts one law for each way out, where the rules before tell the rest.
 -- Rests on Broken, Ways and Rules.
 use Prim.Native.Nat.{_<_, _≤_, ℕ}
-use mathlib.Core.Bool.{Bool, _&&_, false, not, true, true≢false, false≢true}
+use mathlib.Core.Bool.{Bool, _&&_, and-true, false, not, true, true≢false, false≢true}
 use mathlib.Core.List.{List}
 use mathlib.Core.Path.{_∙_, _≡_, ap, refl, subst, sym}
 use native.Mathlib.Omega.{arith}
@@ -12,24 +12,21 @@ use Rattle.rulebook.specs.declared.Sizes.{Sizes}
 use Rattle.rulebook.specs.declared.Slot.{Slot}
 use Rattle.rulebook.specs.declared.Stage.{Stage}
 use Rattle.rulebook.specs.declared.Task.{Task}
-use Rattle.block.specs.Words.{versionIn}
+use Rattle.block.specs.Layout.{versionOf}
 use Rattle.layout.specs.Places.{Spans, blockPart, slotPart, taskPart}
 use Rattle.layout.specs.Pool.{viewOf}
 use Rattle.layout.specs.Rows.{slotRead, taskRead}
 use Rattle.rulebook.specs.Sizes.{lastSerial}
 use Rattle.rulebook.specs.State.{names}
 use Rattle.rules.specs.Paced.{Paced, TaskRange}
-use Rattle.survey.specs.Broken.{factsAt, fillsTo, getsIn, interior, onCell, onHand, taskHolds, toAppend, toWrite, unspent}
-use Rattle.survey.specs.Reads.{versionShown}
-use Rattle.survey.specs.Rules.{Readable, Rule3, Rule6, shown, task}
+use Rattle.survey.specs.Broken.{factsAt}
+use Rattle.survey.specs.Holds.{fillsTo, getsIn, interior, onCell, onHand, taskHolds, toAppend, toWrite, unspent}
+use Rattle.survey.specs.Logs.{Walkable, live-walkable}
+use Rattle.survey.specs.Rules.{Rule2, Rule3, Rule6, shown, task}
 use Rattle.survey.specs.Ways.{slot-as, task-as, version-here}
 use Rattle.rulebook.specs.declared.Stage.the-variants as stage
 
 -- ---- tests in a row, the last of which is left
-
-and-right : (a : Bool) → a ≡ (a && true)
-and-right true = refl
-and-right false = refl
 
 three-stop : (a b c x : Bool) → (a && (b && c)) ≡ false → false ≡ (a && (b && (c && x)))
 three-stop true true true x e = absurd (true≢false e)
@@ -58,9 +55,10 @@ four-go true false c f x e = absurd (false≢true e)
 four-go false b c f x e = absurd (false≢true e)
 
 module _ (d : Sizes) (p : List ℕ) where
-  -- what the rules before tell: the logs of blocks with a live handle can be read, tasks stand where they name one, and numbers are in their ranges
+  -- what the rules before tell: the logs of blocks with a live handle can be walked, tasks stand where they name one, and numbers are in their ranges
   pub record Known : Type 0 where
     pub spans : Spans d p
+    pub two : Rule2 d p
     pub three : Rule3 d p
     pub six : Rule6 d p
     pub paced : Paced (shown d p)
@@ -79,15 +77,15 @@ module _ (d : Sizes) (p : List ℕ) where
     pub target : k .target < d .b
     pub hand : k .hand .cell < d .n
 
-  -- and the logs of the block on which it stands can be read
+  -- and the logs of the block on which it stands can be walked
   pub record Reads (k : Task) : Type 0 where
     pub ranged : Ranged k
-    pub logs : Readable (d .n) (blockPart p d (k .block))
+    pub logs : Walkable (d .n) (blockPart p d (k .block))
 
   -- which they can where its stage names a handle
   pub record Stands (g : Stage) (k : Task) : Type 0 where
     pub ranged : Ranged k
-    pub logs : names g ≡ true → Readable (d .n) (blockPart p d (k .block))
+    pub logs : names g ≡ true → Walkable (d .n) (blockPart p d (k .block))
 
   module _ (k : Task) (s : Ranged k) where
     -- ---- what the ranges tell
@@ -117,11 +115,11 @@ module _ (d : Sizes) (p : List ℕ) where
     module _ (a : Bool) (e : a ≡ unspent (shown d p) k) where
       take-new-is : a ≡ doneAt stage.TakeNew k
       unfolding doneAt
-      take-new-is = rw (← e, some-cells) (and-right a)
+      take-new-is = rw (← e, some-cells) (sym (and-true a))
 
       exchange-is : a ≡ doneAt stage.Exchange k
       unfolding doneAt
-      exchange-is = rw (← e, on-cell) (and-right a)
+      exchange-is = rw (← e, on-cell) (sym (and-true a))
 
       module _ (q : not a ≡ true) where
         pub fill-new-spent : false ≡ doneAt stage.FillNew k
@@ -145,14 +143,14 @@ module _ (d : Sizes) (p : List ℕ) where
         put-spent = rw (← e, not-true a q)
 
       module _ (q : not a ≡ false) where
-        pub take-copy-last : (v : ℕ) → v ≡ versionShown (versionIn (d .n) (blockPart p d (k .block))) → ltb (k .number) v ≡ doneAt stage.TakeCopy k
+        pub take-copy-last : (v : ℕ) → v ≡ versionOf (blockPart p d (k .block)) → ltb (k .number) v ≡ doneAt stage.TakeCopy k
         unfolding doneAt
-        take-copy-last v g = rw (← e, not-false a q, on-cell, version-here d p (s .spans) (k .block) (s .block) v g)
+        take-copy-last v g = rw (← e, not-false a q, on-cell, version-here d p (k .block) (s .block) v g)
 
         module _ (r : Bool) where
           pub fill-new-last : r ≡ fillsTo (shown d p) (k .hand .cell) k → r ≡ doneAt stage.FillNew k
           unfolding doneAt
-          fill-new-last f = f ∙ rw (← e, not-false a q, on-hand) (and-right (fillsTo (shown d p) (k .hand .cell) k))
+          fill-new-last f = f ∙ rw (← e, not-false a q, on-hand) (sym (and-true (fillsTo (shown d p) (k .hand .cell) k)))
 
           pub read-last : r ≡ toAppend (shown d p) k → r ≡ doneAt stage.Read k
           unfolding doneAt
@@ -180,7 +178,7 @@ module _ (d : Sizes) (p : List ℕ) where
       pub fill-copy-last : not a ≡ false → (r : Bool) → r ≡ fillsTo (shown d p) (k .hand .cell) k → r ≡ doneAt stage.FillCopy k
       unfolding doneAt
       fill-copy-last q r f =
-          f ∙ and-right (fillsTo (shown d p) (k .hand .cell) k) ∙ ap (λ (x : Bool). fillsTo (shown d p) (k .hand .cell) k && x) (sym on-hand)
+          f ∙ sym (and-true (fillsTo (shown d p) (k .hand .cell) k)) ∙ ap (λ (x : Bool). fillsTo (shown d p) (k .hand .cell) k && x) (sym on-hand)
           ∙ three-go (unspent (shown d p) k) (onCell (shown d p) k) (interior (shown d p) k) (fillsTo (shown d p) (k .hand .cell) k && onHand (shown d p) k) (sym begun ∙ not-false a q)
 
     module _ (a : Bool) (e : a ≡ doneAt stage.FillCopy k) (r : Reading) where
@@ -207,7 +205,7 @@ module _ (d : Sizes) (p : List ℕ) where
 
       pub paging-last : not a ≡ false → ltb (k .hand .cell) (k .until) ≡ doneAt (stage.Paging r) k
       unfolding doneAt
-      paging-last q = rw (← e, not-false a q, until-in) (and-right (ltb (k .hand .cell) (k .until)))
+      paging-last q = rw (← e, not-false a q, until-in) (sym (and-true (ltb (k .hand .cell) (k .until))))
 
   -- ---- the stage
 
@@ -217,7 +215,7 @@ module _ (d : Sizes) (p : List ℕ) where
       named : (q : Stage) → g ≡ q → names q ≡ true → Reads k
       named q e n = record { ranged = s .ranged; logs = s .logs (ap names e ∙ n) }
 
-      pub logs-getting : (r : Reading) → g ≡ stage.Getting r → Readable (d .n) (blockPart p d (k .block))
+      pub logs-getting : (r : Reading) → g ≡ stage.Getting r → Walkable (d .n) (blockPart p d (k .block))
       logs-getting r e = s .logs (ap names e)
 
       pub reads-read : g ≡ stage.Read → Reads k
@@ -282,7 +280,7 @@ module _ (d : Sizes) (p : List ℕ) where
               };
           logs = λ n.
               let q = s .six .named-live t n in
-              subst (λ (x : ℕ). Readable (d .n) (blockPart p d x)) (q .1) (s .three .readable (task d p t .slot) (q .0));
+              subst (λ (x : ℕ). Walkable (d .n) (blockPart p d x)) (q .1) (live-walkable d p (s .two) (s .three) (task d p t .slot) (q .0));
         }
 
     module _ (t : ℕ) (k : Task) (e : k ≡ taskRead (taskPart p d t)) (l : t < d .t) where

@@ -21,7 +21,8 @@ use Rattle.layout.specs.View.{view-block-at}
 use Rattle.rulebook.specs.State.{Block, fills, logAt}
 use Rattle.rules.specs.Paced.{Paced, TaskRange}
 use Rattle.rules.specs.Rules.{Fills, TaskRule}
-use Rattle.survey.specs.Broken.{fillingAt, fillingIn}
+use Rattle.survey.specs.Broken.{fillingAt}
+use Rattle.survey.specs.Holds.{fillingIn}
 use Rattle.survey.specs.Decide.{decide-as, decide-eq, same}
 use Rattle.survey.specs.DecideBlocks.{filling-decides}
 use Rattle.survey.specs.Rules.{shown, task}

@@ -1,5 +1,5 @@
 -- A task that reads: the log of its cell as the words show it, and for each function of gets one law for each way out.
--- Rests on Broken, Reads and the block's reading.
+-- Rests on Broken, Logs and the block's reading.
 use Prim.Native.Nat.{_<_, _≤_, ℕ}
 use mathlib.Core.Bool.{Bool, _&&_, false, not, true}
 use mathlib.Core.List.{List}
@@ -15,21 +15,18 @@ use Rattle.rulebook.specs.declared.Sizes.{Sizes}
 use Rattle.rulebook.specs.declared.Task.{Task}
 use Rattle.block.specs.Layout.{arena, entryOf, lengthOf, placeOf}
 use Rattle.block.specs.Reads.{entry-at, log-length-at}
-use Rattle.block.specs.Ways.{block-cell}
-use Rattle.block.specs.Words.{entryIn, entryUnder, lengthIn}
-use Rattle.layout.specs.Keeps.{block-sized}
+use Rattle.block.specs.Raw.{stampIn}
 use Rattle.layout.specs.Places.{Spans, blockPart}
 use Rattle.layout.specs.Pool.{viewOf}
 use Rattle.layout.specs.View.{view-block-at}
 use Rattle.rulebook.specs.State.{Block, blockAt, logAt}
 use Rattle.theorems.specs.Terms.{allTo, versionAt}
-use Rattle.survey.specs.Broken.{getsIn, seeksIn}
-use Rattle.survey.specs.Reads.{lengthShown, stampShown}
-use Rattle.survey.specs.Rules.{Readable, shown}
-use Rattle.block.specs.declared.Looked.the-variants as looked
+use Rattle.survey.specs.Holds.{getsIn, seeksIn}
+use Rattle.survey.specs.Logs.{Walkable}
+use Rattle.survey.specs.Rules.{shown}
 use Rattle.rulebook.specs.declared.Reading.the-variants as reading
 
--- the candidate of a search of the log l is the entry at hi, which is not older than L
+-- the candidate of a search of the log l has the version of the entry at hi, which is not older than L
 unfoldable pub candidateIn : List Entry → ℕ → Hand → Bool
 candidateIn l L w = ltb (w .hi) (length l) && (eqb (w .version) (versionAt l (w .hi)) && leb L (versionAt l (w .hi)))
 
@@ -46,33 +43,33 @@ module _ (d : Sizes) (p : List ℕ) where
   pub record Log (k i : ℕ) : Type 0 where
     pub spans : Spans d p
     pub block : k < d .b
-    pub logs : Readable (d .n) (blockPart p d k)
+    pub logs : Walkable (d .n) (blockPart p d k)
     pub cell : i < d .n
 
-  pub log-here : Spans d p → (k i : ℕ) → k < d .b → Readable (d .n) (blockPart p d k) → i < d .n → Log k i
+  pub log-here : Spans d p → (k i : ℕ) → k < d .b → Walkable (d .n) (blockPart p d k) → i < d .n → Log k i
   log-here sp k i l r c = record { spans = sp; block = l; logs = r; cell = c }
 
   module _ (k i : ℕ) (g : Log k i) where
-    length-reads : lengthIn (d .n) (blockPart p d k) i ≡ looked.Word (lengthOf (d .n) (blockPart p d k) i)
-    unfolding lengthIn
-    length-reads =
-        rw (block-cell (d .n) (blockPart p d k) i (block-sized (g .spans) k (g .block)) (g .cell), le-leb (lengthOf (d .n) (blockPart p d k) i) (d .n) (g .logs .short i (g .cell)))
-
     long-as : length (logIn k i) ≡ lengthOf (d .n) (blockPart p d k) i
     unfolding logIn
     long-as = ap (λ (b : Block). length (logAt b i)) (view-block-at d p k (g .block)) ∙ log-length-at (d .n) (blockPart p d k) i (g .cell)
 
-    pub log-length : (m : ℕ) → m ≡ lengthShown (lengthIn (d .n) (blockPart p d k) i) → m ≡ length (logIn k i)
-    log-length m e = e ∙ ap lengthShown length-reads ∙ sym long-as
+    pub log-length : (m : ℕ) → m ≡ lengthOf (d .n) (blockPart p d k) i → m ≡ length (logIn k i)
+    log-length m e = e ∙ sym long-as
 
-    module _ (j : ℕ) (l : j < length (logIn k i)) (at : ℕ) (e : at ≡ stampShown (entryIn (d .n) (blockPart p d k) i j)) where
+    pub log-within : (j : ℕ) → j < length (logIn k i) → j ≤ d .n
+    log-within j l = let y = long-as in let z = g .logs .short i (g .cell) in omega arith
+
+    pub hi-within : (m j : ℕ) → m ≡ length (logIn k i) → j < m → j ≤ d .n
+    hi-within m j e l = log-within j (omega arith)
+
+    module _ (j : ℕ) (l : j < length (logIn k i)) (at : ℕ) (e : at ≡ stampIn (d .n) (blockPart p d k) i j) where
       in-log : j < lengthOf (d .n) (blockPart p d k) i
       in-log = let z = long-as in omega arith
 
-      seen-as : stampShown (entryIn (d .n) (blockPart p d k) i j) ≡ entryOf (d .n) (blockPart p d k) (placeOf (d .n) (blockPart p d k) i j) .version
-      unfolding entryIn entryUnder
-      seen-as =
-          rw (length-reads, lt-ltb j (lengthOf (d .n) (blockPart p d k) i) in-log, lt-ltb (placeOf (d .n) (blockPart p d k) i j) (arena (d .n)) (g .logs .inside i j (g .cell) in-log))
+      seen-as : stampIn (d .n) (blockPart p d k) i j ≡ entryOf (d .n) (blockPart p d k) (placeOf (d .n) (blockPart p d k) i j) .version
+      unfolding stampIn
+      seen-as = rw (lt-ltb (placeOf (d .n) (blockPart p d k) i j) (arena (d .n)) (g .logs .inside i j (g .cell) in-log))
 
       stamp-as : versionAt (logIn k i) j ≡ at
       unfolding logIn
@@ -91,7 +88,7 @@ module _ (d : Sizes) (p : List ℕ) where
       unfolding candidateIn
       candidate-far l = rw (le-ltb (w .hi) (length (logIn k i)) (omega arith))
 
-      module _ (l : w .hi < m) (at : ℕ) (f : at ≡ stampShown (entryIn (d .n) (blockPart p d k) i (w .hi))) where
+      module _ (l : w .hi < m) (at : ℕ) (f : at ≡ stampIn (d .n) (blockPart p d k) i (w .hi)) where
         here : w .hi < length (logIn k i)
         here = omega arith
 
@@ -105,7 +102,7 @@ module _ (d : Sizes) (p : List ℕ) where
 
     -- ---- the search
 
-    module _ (L : ℕ) (w : Hand) (a : w .lo < w .hi) (m : ℕ) (e : m ≡ lengthShown (lengthIn (d .n) (blockPart p d k) i)) where
+    module _ (L : ℕ) (w : Hand) (a : w .lo < w .hi) (m : ℕ) (e : m ≡ lengthOf (d .n) (blockPart p d k) i) where
       pub seeks-far : m < w .hi → false ≡ seeksIn (logIn k i) L w
       unfolding seeksIn
       seeks-far l = let z = log-length m e in rw (lt-ltb (w .lo) (w .hi) a, lt-leb (w .hi) (length (logIn k i)) (omega arith))
@@ -163,4 +160,4 @@ module _ (d : Sizes) (p : List ℕ) (r : Reading) (k : Task) (l : k .hand .cell 
   unfolding getsIn logIn
   gets-probe e b f = f ∙ rw (on-cell, e)
 
-pub ruleset gets = (log-here, log-length, older-is, candidate-far, candidate-other, candidate-last, seeks-none, seeks-far, seeks-inside, seeks-newer, seeks-open, seeks-last, gets-guess, gets-version, gets-length, gets-probe)
+pub ruleset gets = (log-here, log-length, log-within, hi-within, older-is, candidate-far, candidate-other, candidate-last, seeks-none, seeks-far, seeks-inside, seeks-newer, seeks-open, seeks-last, gets-guess, gets-version, gets-length, gets-probe)

@@ -7,27 +7,24 @@ use mathlib.Core.Path.{_∙_, _≡_, ap, refl, sym}
 use native.Mathlib.Omega.{arith}
 use lib.Dec.{eqb, leb, ltb}
 use lib.ListN.{length}
-use borrow.Author.Tests.{eq-eqb, le-leb, le-ltb, leb-false, lt-leb, lt-ltb, ne-eqb, not-false, not-true}
+use borrow.Author.Tests.{eq-eqb, le-leb, le-ltb, lt-leb, lt-ltb, ne-eqb, not-false, not-true}
 use Rattle.rulebook.specs.declared.Entry.{Entry}
 use Rattle.rulebook.specs.declared.Sizes.{Sizes}
 use Rattle.rulebook.specs.declared.Task.{Task}
-use Rattle.block.specs.Layout.{arena, hasCell, lengthOf, placeOf}
+use Rattle.block.specs.Layout.{arena, lengthOf, placeOf, versionOf}
+use Rattle.block.specs.Raw.{stampIn}
 use Rattle.block.specs.Reads.{entry-at, log-length-at}
-use Rattle.block.specs.Ways.{block-cell}
-use Rattle.block.specs.Words.{entryIn, entryUnder, lengthIn, versionIn}
-use Rattle.layout.specs.Keeps.{block-sized}
 use Rattle.layout.specs.Places.{Spans, blockPart}
 use Rattle.layout.specs.Pool.{viewOf}
 use Rattle.layout.specs.View.{view-block-at, view-block-logs}
 use Rattle.rulebook.specs.State.{Block, blockAt, logAt}
-use Rattle.rulebook.specs.Tests.{by-test}
 use Rattle.theorems.specs.Terms.{allTo, entries, versionAt}
-use Rattle.survey.specs.Broken.{allBelow, everyEntry, fillsTo, toAppend, toWrite}
+use Rattle.survey.specs.Holds.{allBelow, everyEntry, fillsTo, toAppend, toWrite}
 use Rattle.survey.specs.Decide.{_implies_, someTo}
-use Rattle.survey.specs.Logs.{stampOf}
-use Rattle.survey.specs.Reads.{lengthShown, outside, some-end, some-on, some-start, some-stop, stampShown, versionShown}
-use Rattle.survey.specs.Rules.{Readable, shown}
-use Rattle.survey.specs.Tally.{Counts, counts-spans, length-is, length-reads}
+use Rattle.survey.specs.Logs.{Walkable, stampOf}
+use Rattle.survey.specs.Searches.{some-end, some-on, some-start, some-stop}
+use Rattle.survey.specs.Rules.{shown}
+use Rattle.survey.specs.Tally.{Counts, counts-spans}
 use Rattle.survey.specs.Ways.{all-end, all-on, all-start, all-stop, version-here}
 
 -- ---- what is asked of the logs of block k, whose cell i has this log
@@ -65,38 +62,29 @@ module _ (d : Sizes) (p : List ℕ) (k : ℕ) where
 
   -- ---- a log is empty
 
-  -- a length above N is not 0, and is not read as 0
-  pub log-empty : Spans d p → k < d .b → (i : ℕ) → i < d .n → (m : ℕ) → m ≡ lengthShown (lengthIn (d .n) (blockPart p d k) i) → eqb m 0 ≡ emptyAt i
-  unfolding emptyAt lengthIn
-  log-empty sp b i l m e =
-      by-test (leb (wordOf i) (d .n))
-      (λ f. let near : m ≡ wordOf i = e ∙ rw (has, f) in ap (λ (x : ℕ). eqb x 0) (near ∙ sym (log-long b i l)))
-      (λ f.
-      let far : m ≡ outside = e ∙ rw (has, f) in
-      let over = leb-false (wordOf i) (d .n) f in
-      ne-eqb m 0 (λ z. omega arith) ∙ sym (ap (λ (x : ℕ). eqb x 0) (log-long b i l) ∙ ne-eqb (wordOf i) 0 (λ z. omega arith)))
-    where
-      has : hasCell (d .n) (blockPart p d k) i ≡ true
-      has = block-cell (d .n) (blockPart p d k) i (block-sized sp k b) l
+  pub log-empty : k < d .b → (i : ℕ) → i < d .n → (m : ℕ) → m ≡ wordOf i → eqb m 0 ≡ emptyAt i
+  unfolding emptyAt
+  log-empty b i l m e = ap (λ (x : ℕ). eqb x 0) (e ∙ sym (log-long b i l))
 
-  -- ---- the entries of a log that can be read
+  -- ---- the entries of a log that can be walked
 
-  module _ (s : Counts d p k) (v i : ℕ) (l : i < d .n) (m : ℕ) (e : m ≡ lengthShown (lengthIn (d .n) (blockPart p d k) i)) where
+  module _ (s : Counts d p k) (v i : ℕ) (l : i < d .n) (m : ℕ) (e : m ≡ wordOf i) where
     long : length (logIn i) ≡ m
-    long = log-long (s .below) i l ∙ sym (length-is d p k s i l m e)
+    long = log-long (s .below) i l ∙ sym e
 
-    module _ (q : ℕ) (o : q < m) (at : ℕ) (g : at ≡ stampShown (entryIn (d .n) (blockPart p d k) i q)) where
+    pub stamp-within : (q : ℕ) → q < m → q ≤ d .n
+    stamp-within q o = let z = s .logs .short i l in omega arith
+
+    module _ (q : ℕ) (o : q < m) (at : ℕ) (g : at ≡ stampIn (d .n) (blockPart p d k) i q) where
       in-log : q < wordOf i
-      in-log = let z = length-is d p k s i l m e in omega arith
+      in-log = omega arith
 
       in-view : q < length (logIn i)
       in-view = let z = long in omega arith
 
       stamp-is : at ≡ stampOf (d .n) (blockPart p d k) i q
-      unfolding entryIn entryUnder
-      stamp-is =
-          g
-          ∙ rw (length-reads d p k s i l, lt-ltb q (wordOf i) in-log, lt-ltb (placeOf (d .n) (blockPart p d k) i q) (arena (d .n)) (s .logs .inside i q l in-log))
+      unfolding stampIn
+      stamp-is = g ∙ rw (lt-ltb (placeOf (d .n) (blockPart p d k) i q) (arena (d .n)) (s .logs .inside i q l in-log))
 
       version-is : at ≡ versionAt (logIn i) q
       version-is =
@@ -142,7 +130,7 @@ module _ (d : Sizes) (p : List ℕ) (k : ℕ) where
   unfolding otherBelow
   other-else c v i o r e = e ∙ rw (ne-eqb i c o)
 
-  pub counts-of : Spans d p → k < d .b → Readable (d .n) (blockPart p d k) → Counts d p k
+  pub counts-of : Spans d p → k < d .b → Walkable (d .n) (blockPart p d k) → Counts d p k
   counts-of sp b r = record { spans = sp; below = b; logs = r }
 
   pub counts-below : Counts d p k → k < d .b
@@ -195,14 +183,14 @@ module _ (d : Sizes) (p : List ℕ) (k : Task) where
   unfolding viewOf
   target-low = lt-ltb (k .target) (d .b)
 
-  module _ (c : ℕ) (sp : Spans d p) (b : k .target < d .b) (v : ℕ) (e : v ≡ versionShown (versionIn (d .n) (blockPart p d (k .target)))) where
+  module _ (c : ℕ) (b : k .target < d .b) (v : ℕ) (e : v ≡ versionOf (blockPart p d (k .target))) where
     pub fills-old : (v ≡ 0 → ⊥) → false ≡ fillsTo (shown d p) c k
     unfolding fillsTo
-    fills-old o = rw (target-low b, version-here d p sp (k .target) b v e, ne-eqb v 0 o)
+    fills-old o = rw (target-low b, version-here d p (k .target) b v e, ne-eqb v 0 o)
 
     pub fills-last : v ≡ 0 → (r : Bool) → r ≡ allTo (emptyAt d p (k .target)) c → r ≡ fillsTo (shown d p) c k
     unfolding fillsTo emptyAt
-    fills-last o r f = f ∙ rw (target-low b, version-here d p sp (k .target) b v e, eq-eqb v 0 o)
+    fills-last o r f = f ∙ rw (target-low b, version-here d p (k .target) b v e, eq-eqb v 0 o)
 
   pub append-high : d .n ≤ k .number → false ≡ toAppend (shown d p) k
   unfolding toAppend
@@ -236,7 +224,7 @@ in-cells i c n a b = omega arith
 
 pub ruleset empties = (log-empty, in-cells, all-start, all-on, all-stop, all-end)
 
-pub ruleset stamps = (counts-spans, counts-below, all-start, below-stop, below-on, below-end, some-start, from-stop, from-on, from-end)
+pub ruleset stamps = (counts-spans, counts-below, stamp-within, all-start, below-stop, below-on, below-end, some-start, from-stop, from-on, from-end)
 
 pub ruleset others = (other-same, other-else)
 

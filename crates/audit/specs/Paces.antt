@@ -28,7 +28,8 @@ use Rattle.rulebook.specs.Tests.{by-test}
 use Rattle.rules.specs.Paced.{TaskRange, copySteps, digits-few, product-few, steps-few}
 use Rattle.theorems.specs.Prices.Digits.{digits-half, leftOf}
 use Rattle.theorems.specs.Terms.{digits, digitsIn}
-use Rattle.survey.specs.Broken.{bareHand, bareTask, paceHolds, rangeHolds, taskSound}
+use Rattle.survey.specs.Broken.{taskSound}
+use Rattle.survey.specs.Holds.{bareHand, bareTask, paceHolds, rangeHolds}
 use Rattle.survey.specs.DecideTasks.{range-decides}
 use Rattle.survey.specs.Rules.{task}
 use Rattle.acts.specs.declared.TaskRow.the-variants as taskrow

@@ -14,7 +14,7 @@ use Rattle.survey.specs.Broken.{factsAt, fillingAt, laidAt, rule7, slotSound, t
 use Rattle.survey.specs.Decided.{facts-decide, rows-decide, slots-decide}
 use Rattle.audit.specs.Facts.{Known}
 use Rattle.audit.specs.Fillers.{Facts}
-use Rattle.survey.specs.Rules.{Rule3, Rule6, shown}
+use Rattle.survey.specs.Rules.{Rule2, Rule3, Rule6, shown}
 
 module _ (d : Sizes) (p : List ℕ) (a : Bool) (e : a ≡ allTo (slotSound d p) (d .h)) where
   pub part-slots : not a ≡ true → false ≡ rule7 d p
@@ -32,8 +32,8 @@ module _ (d : Sizes) (p : List ℕ) (a : Bool) (e : a ≡ allTo (slotSound d p) 
       unfolding viewOf
       part-paced sp = record { tasks = rows-decide d p sp .yes (sym f ∙ not-false b o) .1; slots = slots-decide d p sp .yes (sym e ∙ not-false a q) .1 }
 
-      pub part-known : Spans d p → Rule3 d p → Rule6 d p → Known d p
-      part-known sp r s = record { spans = sp; three = r; six = s; paced = part-paced sp }
+      pub part-known : Spans d p → Rule2 d p → Rule3 d p → Rule6 d p → Known d p
+      part-known sp w r s = record { spans = sp; two = w; three = r; six = s; paced = part-paced sp }
 
       pub part-told : Spans d p → (x : Bool) → x ≡ allTo (factsAt d p) (d .t) → not x ≡ false → Facts d p
       part-told sp x h u = record { spans = sp; paced = part-paced sp; tasks = facts-decide d p sp .yes (sym h ∙ not-false x u) }

@@ -1,9 +1,9 @@
 -- Rule 7's functions on rows and blocks: one law for each way out.
 -- Rests on Broken, Ways and the deciding of each part.
 use Prim.Native.Nat.{_+_, _<_, _≤_, ℕ}
-use mathlib.Core.Bool.{Bool, _&&_, false, not, true}
+use mathlib.Core.Bool.{Bool, and-true, false, not, true}
 use mathlib.Core.List.{List}
-use mathlib.Core.Path.{_∙_, _≡_, ap, refl, subst, sym}
+use mathlib.Core.Path.{_∙_, _≡_, ap, subst, sym}
 use native.Mathlib.Omega.{arith}
 use lib.Dec.{eqb, leb, ltb}
 use lib.ListN.{getD}
@@ -12,9 +12,9 @@ use Rattle.acts.specs.declared.SlotRow.{SlotRow}
 use Rattle.rulebook.specs.declared.Sizes.{Sizes}
 use Rattle.rulebook.specs.declared.Slot.{Slot}
 use Rattle.rulebook.specs.declared.Task.{Task}
+use Rattle.block.specs.Layout.{versionOf}
 use Rattle.block.specs.Sound.{Laid}
 use Rattle.block.specs.Walk.{Decides}
-use Rattle.block.specs.Words.{versionIn}
 use Rattle.layout.specs.Places.{Spans, blockPart, slotPart, taskPart}
 use Rattle.layout.specs.Pool.{slotIn, viewOf}
 use Rattle.layout.specs.Ranges.{slot-row}
@@ -25,11 +25,11 @@ use Rattle.rulebook.specs.State.{isLive, stood, writes}
 use Rattle.rulebook.specs.Tests.{by-test}
 use Rattle.rules.specs.Paced.{Paced, SlotRange, TaskRange}
 use Rattle.theorems.specs.Terms.{allTo}
-use Rattle.survey.specs.Broken.{laidAt, laidIn, notAbove, slotHolds, slotSound, writerApart, writerAt}
+use Rattle.survey.specs.Broken.{laidAt, notAbove, slotSound, writerApart, writerAt}
+use Rattle.survey.specs.Holds.{laidIn, slotHolds}
 use Rattle.survey.specs.Decide.{same}
 use Rattle.survey.specs.DecideBlocks.{laid-decides}
 use Rattle.survey.specs.DecideTasks.{live-decides, slot-decides}
-use Rattle.survey.specs.Reads.{versionShown}
 use Rattle.survey.specs.Rules.{Lives, Rule2, shown, slot}
 use Rattle.survey.specs.Ways.{slot-as, task-as, version-here}
 use Rattle.acts.specs.declared.SlotRow.the-variants as slotrow
@@ -67,19 +67,19 @@ module _ (d : Sizes) (p : List ℕ) where
       pub writer-next : Spans d p → k .number + 1 < 4294967296
       writer-next sp = let z = in-range .number-within in let y = sp .cells in omega arith
 
-      module _ (sp : Spans d p) (q : not b ≡ false) (v : ℕ) (g : v ≡ versionShown (versionIn (d .n) (blockPart p d (k .block)))) where
+      module _ (q : not b ≡ false) (v : ℕ) (g : v ≡ versionOf (blockPart p d (k .block))) where
         pub writer-low : (v ≡ k .number + 1 → ⊥) → false ≡ writerAt d p t
         unfolding writerAt
-        writer-low o = rw (task-as d p t k e l, ← f, not-false b q, version-here d p sp (k .block) writer-block v g, ne-eqb v (k .number + 1) o)
+        writer-low o = rw (task-as d p t k e l, ← f, not-false b q, version-here d p (k .block) writer-block v g, ne-eqb v (k .number + 1) o)
 
         module _ (o : v ≡ k .number + 1) (c : Bool) (h : c ≡ allTo (writerApart d p k t) (d .t)) where
           pub writer-shared : not c ≡ true → false ≡ writerAt d p t
           unfolding writerAt
-          writer-shared i = rw (task-as d p t k e l, ← f, not-false b q, version-here d p sp (k .block) writer-block v g, eq-eqb v (k .number + 1) o, ← h, not-true c i)
+          writer-shared i = rw (task-as d p t k e l, ← f, not-false b q, version-here d p (k .block) writer-block v g, eq-eqb v (k .number + 1) o, ← h, not-true c i)
 
           pub writer-last : not c ≡ false → (r : Bool) → r ≡ allTo (notAbove d p k) (d .h) → r ≡ writerAt d p t
           unfolding writerAt
-          writer-last i r z = z ∙ rw (task-as d p t k e l, ← f, not-false b q, version-here d p sp (k .block) writer-block v g, eq-eqb v (k .number + 1) o, ← h, not-false c i)
+          writer-last i r z = z ∙ rw (task-as d p t k e l, ← f, not-false b q, version-here d p (k .block) writer-block v g, eq-eqb v (k .number + 1) o, ← h, not-false c i)
 
   module _ (j : ℕ) (x : Slot) (e : x ≡ slotRead (slotPart p j)) (l : j < d .h) (b : Bool) (k : Task) (f : b ≡ isLive (x .status)) where
     pub above-dead : not b ≡ true → true ≡ notAbove d p k j
@@ -118,11 +118,7 @@ module _ (x : Slot) where
 
     pub slot-number : b ≡ false → x .block ≡ 0 → eqb (x .number) 0 ≡ slotHolds x
     unfolding slotHolds
-    slot-number q o = rw (low, ← f, q, eq-eqb (x .block) 0 o) (and-right (eqb (x .number) 0))
-      where
-        and-right : (c : Bool) → c ≡ (c && true)
-        and-right true = refl
-        and-right false = refl
+    slot-number q o = rw (low, ← f, q, eq-eqb (x .block) 0 o) (sym (and-true (eqb (x .number) 0)))
 
 -- a row that was read has a status's code; a row with one, in its ranges, is read
 row-code : (d : Sizes) (x : Slot) (w : List ℕ) → slotRowOf d w ≡ slotrow.Row x → getD w 1 0 < 3

@@ -7,12 +7,12 @@ use rulebook::Reading;
 use rulebook::Sizes;
 use rulebook::Stage;
 use rulebook::Task;
-use survey::reads::version_of;
 ghost use mathlib.Core.Path.{_≡_};
 ghost use Prim.Native.Nat.{_<_};
 ghost use Rattle.theorems.specs.Terms.{allTo};
 ghost use Rattle.survey.specs.Rules.{shown};
-ghost use Rattle.survey.specs.Broken.{factsAt, unspent};
+ghost use Rattle.survey.specs.Broken.{factsAt};
+ghost use Rattle.survey.specs.Holds.{unspent};
 ghost use Rattle.audit.specs.Facts.{Known, Ranged, Reads, Stands, doneAt};
 
 const LAST_SERIAL: u32 = 16777215;
@@ -71,7 +71,7 @@ fn copy_begun(words: &[u32], d: Sizes, k: Task) -> bool
     if !is_unspent(words, d, k) {
         return false;
     }
-    let v = version_of(words, d, k.block);
+    let v = pool::raw_version(words, d, k.block);
     k.number < v
 }
 

@@ -16,7 +16,7 @@ fn filling_at(words: &[u32], d: Sizes, t: u32) -> bool
     if !fills_block(g) {
         return true;
     }
-    pool::bump(words, d, k.target) == 0
+    pool::raw_bump(words, d, k.target) == 0
 }
 
 // Where each task's own facts hold.

@@ -2,15 +2,14 @@
 use rulebook::Reading;
 use rulebook::Sizes;
 use rulebook::Task;
-use survey::reads::length_of;
-use survey::reads::stamp_of;
 ghost use mathlib.Core.Path.{_≡_};
 ghost use Prim.Native.Nat.{_<_, _≤_};
 ghost use lib.ListN.{length};
 ghost use Rattle.theorems.specs.Terms.{allTo};
 ghost use Rattle.layout.specs.Places.{Spans, blockPart};
-ghost use Rattle.survey.specs.Rules.{Readable, shown};
-ghost use Rattle.survey.specs.Broken.{getsIn, seeksIn};
+ghost use Rattle.survey.specs.Logs.{Walkable};
+ghost use Rattle.survey.specs.Rules.{shown};
+ghost use Rattle.survey.specs.Holds.{getsIn, seeksIn};
 ghost use Rattle.audit.specs.Gets.{Log, candidateIn, logIn, olderIn};
 
 // Entry j of the log of cell i of block k is older than l.
@@ -18,7 +17,7 @@ fn is_older(words: &[u32], d: Sizes, k: u32, i: u32, l: u32, j: u32) -> bool
     requires { ⌜ Log d (now words) k i × (j < length (logIn d (now words) k i)) ⌝ }
     ensures { λ r. ⌜ r ≡ olderIn d (now (words .entry)) k i l j ⌝ }
 {
-    let at = stamp_of(words, d, k, i, j);
+    let at = pool::raw_stamp(words, d, k, i, j);
     at < l
 }
 
@@ -37,7 +36,7 @@ fn all_older(words: &[u32], d: Sizes, k: u32, i: u32, l: u32, lo: u32) -> bool
     true
 }
 
-// The candidate of task k, whose log has m entries, is the entry at hi.
+// The candidate of task k, whose log has m entries, has the version of the entry at hi.
 fn candidate_holds(words: &[u32], d: Sizes, k: Task, m: u32) -> bool
     requires { ⌜ Log d (now words) (k .block) (k .hand .cell) × (m ≡ length (logIn d (now words) (k .block) (k .hand .cell))) ⌝ }
     ensures { λ r. ⌜ r ≡ candidateIn (logIn d (now (words .entry)) (k .block) (k .hand .cell)) (k .number) (k .hand) ⌝ }
@@ -46,7 +45,7 @@ fn candidate_holds(words: &[u32], d: Sizes, k: Task, m: u32) -> bool
     if m <= w.hi {
         return false;
     }
-    let at = stamp_of(words, d, k.block, w.cell, w.hi);
+    let at = pool::raw_stamp(words, d, k.block, w.cell, w.hi);
     if w.version != at {
         return false;
     }
@@ -62,7 +61,7 @@ fn seeks_in(words: &[u32], d: Sizes, k: Task) -> bool
     if w.hi <= w.lo {
         return false;
     }
-    let m = length_of(words, d, k.block, w.cell);
+    let m = pool::raw_length(words, d, k.block, w.cell);
     if m < w.hi {
         return false;
     }
@@ -77,7 +76,7 @@ fn seeks_in(words: &[u32], d: Sizes, k: Task) -> bool
 
 // The get that task k has in hand, which is at r.
 pub fn gets_in(words: &[u32], d: Sizes, k: Task, r: Reading) -> bool
-    requires { ⌜ Spans d (now words) × (k .block < d .b) × Readable (d .n) (blockPart (now words) d (k .block)) × (k .hand .cell < d .n) ⌝ }
+    requires { ⌜ Spans d (now words) × (k .block < d .b) × Walkable (d .n) (blockPart (now words) d (k .block)) × (k .hand .cell < d .n) ⌝ }
     ensures { λ b. ⌜ b ≡ getsIn (shown d (now (words .entry))) r k ⌝ }
 {
     let w = k.hand;

@@ -1,17 +1,15 @@
 // Rule 7: what a set in place and a task that fills have done.
 use rulebook::Sizes;
 use rulebook::Task;
-use survey::reads::length_of;
-use survey::reads::stamp_of;
-use survey::reads::version_of;
 use survey::tally::entries_of;
 ghost use mathlib.Core.Path.{_≡_};
 ghost use Prim.Native.Nat.{_<_, _≤_};
 ghost use Rattle.rulebook.specs.State.{blockAt};
 ghost use Rattle.theorems.specs.Terms.{allTo};
 ghost use Rattle.layout.specs.Places.{Spans, blockPart};
-ghost use Rattle.survey.specs.Rules.{Readable, shown};
-ghost use Rattle.survey.specs.Broken.{allBelow, fillsTo, toAppend, toWrite};
+ghost use Rattle.survey.specs.Logs.{Walkable};
+ghost use Rattle.survey.specs.Rules.{shown};
+ghost use Rattle.survey.specs.Holds.{allBelow, fillsTo, toAppend, toWrite};
 ghost use Rattle.survey.specs.Tally.{Counts};
 ghost use Rattle.audit.specs.LogsDone.{emptyAt, cellBelow, otherBelow, cellFrom};
 
@@ -22,7 +20,7 @@ fn is_empty(words: &[u32], d: Sizes, k: u32, i: u32) -> bool
     requires { ⌜ Spans d (now words) × (k < d .b) × (i < d .n) ⌝ }
     ensures { λ r. ⌜ r ≡ emptyAt d (now (words .entry)) k i ⌝ }
 {
-    length_of(words, d, k, i) == 0
+    pool::raw_length(words, d, k, i) == 0
 }
 
 // The logs of the cells before cell c are.
@@ -45,7 +43,7 @@ pub fn fills_to(words: &[u32], d: Sizes, c: u32, k: Task) -> bool
     requires { ⌜ Spans d (now words) × (k .target < d .b) × (c ≤ d .n) ⌝ }
     ensures { λ r. ⌜ r ≡ fillsTo (shown d (now (words .entry))) c k ⌝ }
 {
-    let v = version_of(words, d, k.target);
+    let v = pool::raw_version(words, d, k.target);
     if v != 0 {
         return false;
     }
@@ -59,10 +57,10 @@ fn cell_below(words: &[u32], d: Sizes, k: u32, i: u32, v: u32) -> bool
     requires { ⌜ Counts d (now words) k × (i < d .n) ⌝ }
     ensures { λ r. ⌜ r ≡ cellBelow d (now (words .entry)) k v i ⌝ }
 {
-    let m = length_of(words, d, k, i);
+    let m = pool::raw_length(words, d, k, i);
     let mut q = 0;
     while q < m {
-        let at = stamp_of(words, d, k, i, q);
+        let at = pool::raw_stamp(words, d, k, i, q);
         if v <= at {
             return false;
         }
@@ -76,10 +74,10 @@ fn some_from(words: &[u32], d: Sizes, k: u32, i: u32, v: u32) -> bool
     requires { ⌜ Counts d (now words) k × (i < d .n) ⌝ }
     ensures { λ r. ⌜ r ≡ cellFrom d (now (words .entry)) k v i ⌝ }
 {
-    let m = length_of(words, d, k, i);
+    let m = pool::raw_length(words, d, k, i);
     let mut q = 0;
     while q < m {
-        let at = stamp_of(words, d, k, i, q);
+        let at = pool::raw_stamp(words, d, k, i, q);
         if v <= at {
             return true;
         }
@@ -132,7 +130,7 @@ fn others_below(words: &[u32], d: Sizes, k: u32, c: u32, v: u32) -> bool
 
 // Before its append: every entry is older, and there are few.
 pub fn to_append(words: &[u32], d: Sizes, k: Task) -> bool
-    requires { ⌜ Spans d (now words) × (k .block < d .b) × Readable (d .n) (blockPart (now words) d (k .block)) ⌝ }
+    requires { ⌜ Spans d (now words) × (k .block < d .b) × Walkable (d .n) (blockPart (now words) d (k .block)) ⌝ }
     ensures { λ r. ⌜ r ≡ toAppend (shown d (now (words .entry))) k ⌝ }
 {
     if d.n <= k.number {
@@ -146,7 +144,7 @@ pub fn to_append(words: &[u32], d: Sizes, k: Task) -> bool
 
 // After it: of the logs only that of its cell has an entry that is not.
 pub fn to_write(words: &[u32], d: Sizes, k: Task) -> bool
-    requires { ⌜ Spans d (now words) × (k .block < d .b) × Readable (d .n) (blockPart (now words) d (k .block)) × (k .cell < d .n) ⌝ }
+    requires { ⌜ Spans d (now words) × (k .block < d .b) × Walkable (d .n) (blockPart (now words) d (k .block)) × (k .cell < d .n) ⌝ }
     ensures { λ r. ⌜ r ≡ toWrite (shown d (now (words .entry))) k ⌝ }
 {
     if d.n <= k.number {

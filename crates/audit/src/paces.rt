@@ -14,7 +14,8 @@ ghost use Rattle.rulebook.specs.Sizes.{mostCells};
 ghost use Rattle.rules.specs.Paced.{copySteps};
 ghost use Rattle.theorems.specs.Prices.Digits.{leftOf};
 ghost use Rattle.theorems.specs.Terms.{allTo, digits};
-ghost use Rattle.survey.specs.Broken.{bareHand, bareTask, taskSound};
+ghost use Rattle.survey.specs.Broken.{taskSound};
+ghost use Rattle.survey.specs.Holds.{bareHand, bareTask};
 ghost use Rattle.audit.specs.Paces.{Steady, bareRest, bareSearch, paceAt};
 
 // ---- an idle task

@@ -9,7 +9,8 @@ ghost use Prim.Native.Nat.{_<_};
 ghost use Rattle.theorems.specs.Terms.{allTo};
 ghost use Rattle.layout.specs.Places.{Spans};
 ghost use Rattle.survey.specs.Rules.{Rule2};
-ghost use Rattle.survey.specs.Broken.{slotHolds, slotSound, laidAt};
+ghost use Rattle.survey.specs.Broken.{slotSound, laidAt};
+ghost use Rattle.survey.specs.Holds.{slotHolds};
 ghost use Rattle.survey.specs.Stands.{Marked};
 
 const LAST_SERIAL: u32 = 16777215;

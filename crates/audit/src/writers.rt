@@ -3,7 +3,6 @@ use acts::tasks::is_live;
 use rulebook::Sizes;
 use rulebook::Stage;
 use rulebook::Task;
-use survey::reads::version_of;
 ghost use mathlib.Core.Path.{_≡_};
 ghost use Prim.Native.Nat.{_<_};
 ghost use Rattle.rulebook.specs.State.{writes};
@@ -101,7 +100,7 @@ fn writer_at(words: &[u32], d: Sizes, t: u32) -> bool
     if !writes_in_place(g) {
         return true;
     }
-    let v = version_of(words, d, k.block);
+    let v = pool::raw_version(words, d, k.block);
     if v != k.number + 1 {
         return false;
     }

@@ -10,7 +10,7 @@ use lib.Count.{leadingZeros}
 use Rattle.rulebook.specs.Sizes.{mostCells, blockWords, directoryWidth, within}
 use Rattle.rulebook.specs.declared.Entry.{Entry}
 
--- ---- the parts of a block: V, the bump, zeros up to word 16; the cells, the lengths, the directory, the arena, and spare words
+-- ---- the parts of a block: V, the bump, words not used up to word 16; the cells, the lengths, the directory, the arena, and spare words
 
 abbrev pub versionIx : ℕ
 versionIx = 0

@@ -9,6 +9,7 @@ pub mod Rooms
 pub mod Plans
 pub mod Stores
 pub mod Growth
+pub mod Raw
 pub mod Reads
 pub mod Writes
 pub mod Fills

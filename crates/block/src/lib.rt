@@ -1,6 +1,7 @@
 // One block's words, a lent part of the pool: V, the cells, and a log for each cell in chunks that double.
-// No public function asks anything of the words: a number outside the block or its layout is answered, and changes nothing.
+// No public function asks anything of what the words say: a number outside the block or its layout is answered, and changes nothing.
 mod change;
+mod raw;
 mod walk;
 
 pub use change::append;
@@ -8,6 +9,10 @@ pub use change::exchange;
 pub use change::fill;
 pub use change::take;
 pub use change::write;
+pub use raw::raw_bump;
+pub use raw::raw_length;
+pub use raw::raw_stamp;
+pub use raw::raw_version;
 use rulebook::Entry;
 pub use walk::laid;
 ghost use mathlib.Core.Path.{_≡_};
@@ -16,7 +21,7 @@ ghost use Rattle.rulebook.specs.Sizes.{mostCells, blockWords, directoryWidth};
 ghost use Rattle.block.specs.Layout.{cellIx, lengthIx, baseIx, entryIx, arena, mostPlaces, chunkOf, offsetOf, placeOf, spaceOf, isBlock, hasCell, Reach, Lies};
 ghost use Rattle.block.specs.Words.{versionIn, cellIn, lengthIn, entryIn};
 
-// The block's words: V, the bump, and zeros up to HEAD; a cell, a length and WIDTH words of the directory for each cell; the arena.
+// The block's words: V, the bump, and words not used up to HEAD; a cell, a length and WIDTH words of the directory for each cell; the arena.
 const VERSION: usize = 0;
 
 const BUMP: usize = 1;

@@ -1,5 +1,5 @@
 -- What is asked of a pool: every call, as numbers; what it does to the words and answers; and the machine's call that it stands for.
--- Rests on pool's definition of each call and on the machine. Nothing is proved here.
+-- Rests on layout's definition of each call and on the machine. Nothing is proved here.
 use Prim.Native.Nat.{ℕ}
 use mathlib.Core.List.{List, [], _∷_}
 use mathlib.Core.Path.{_≡_}

@@ -1,5 +1,5 @@
 -- What an act needs to be done on a sound pool; and that then the pool shows the machine's next state, answers the machine's answer and is sound
--- again. Rests on pool's laws of an act and on the rules' that every call keeps them.
+-- again. Rests on layout's laws of an act and on the rules' that every call keeps them.
 use Prim.Native.Nat.{_<_, ℕ}
 use mathlib.Core.Bool.{_&&_, false, true}
 use mathlib.Core.List.{List, _++_}

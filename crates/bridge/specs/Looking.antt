@@ -17,6 +17,7 @@ use Rattle.rulebook.specs.declared.Sizes.{Sizes}
 use Rattle.rulebook.specs.declared.Slot.{Slot}
 use Rattle.acts.specs.Looks.{countOf, liveAt, livesAt, plus, reports, seesCell, seesEntry, seesLog, seesReport, seesRow, seesTask, seesUnder, seesVersion, shows, showsEntry, unseen, unseenIn}
 use Rattle.acts.specs.Plans.{foundIf, standerIn}
+use Rattle.acts.specs.Rows.{isNone}
 use Rattle.acts.specs.Sight.{Sight, sightOf}
 use Rattle.layout.specs.Calls.{lookCellIn, lookEntryIn, lookLogIn, lookTaskIn, lookVersionIn, reportIn, seenIn}
 use Rattle.layout.specs.Header.{headerOf}
@@ -31,7 +32,7 @@ use Rattle.theorems.specs.Invariant.Calls.{is-live}
 use Rattle.theorems.specs.Invariant.Shape.{Shape}
 use Rattle.bridge.specs.Alike.{stander-alike}
 use Rattle.bridge.specs.Planned.{found-case, stander-good, stander-is}
-use Rattle.bridge.specs.Searches.{good-if, isBad, isNone}
+use Rattle.bridge.specs.Searches.{good-if, isBad}
 use Rattle.bridge.specs.Shown.{Shows, sight-shows, sound-shape}
 use Rattle.bridge.specs.Sound.{Sound}
 use Rattle.acts.specs.declared.Found.the-variants as found

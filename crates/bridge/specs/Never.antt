@@ -12,7 +12,7 @@ use Rattle.rulebook.specs.declared.Sizes.{Sizes}
 use Rattle.rulebook.specs.declared.Stage.{Stage}
 use Rattle.rulebook.specs.declared.Task.{Task}
 use Rattle.layout.specs.Pool.{viewOf}
-use Rattle.rulebook.specs.Answers.{refusal, words}
+use Rattle.rulebook.specs.Answers.{refusal}
 use Rattle.rulebook.specs.Machine.{Call, call, lookCell, lookEntry, lookLog, lookTask, lookVersion, release, report}
 use Rattle.rulebook.specs.Sizes.{if_then_else_, opens, slotOf, within}
 use Rattle.rulebook.specs.Starts.{noSlot, opening, startGet, startNew, startPage, startSet, startable}

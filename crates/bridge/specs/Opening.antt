@@ -1,5 +1,5 @@
 -- An accepted open leaves a sound pool, which shows the machine's opened state; whatever the words were before.
--- Rests on pool's laws of open and on the rules of an opened state.
+-- Rests on layout's laws of open and on the rules of an opened state.
 use Prim.Native.Nat.{_<_, ℕ}
 use mathlib.Core.Bool.{_&&_, false, true, true≢false}
 use mathlib.Core.List.{List}

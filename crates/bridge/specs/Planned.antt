@@ -12,8 +12,8 @@ use Rattle.rulebook.specs.declared.Slot.{Slot}
 use Rattle.rulebook.specs.declared.Task.{Task}
 use Rattle.acts.specs.Acted.{acted, seated, touched, turned}
 use Rattle.acts.specs.Plans.{filler, fillerIn, fillsAt, firstOf, foundIf, freeAt, freeIn, getOn, holderIn, liveIn, liveRow, maker, namesAt, naming, newOn, orElse, pageOn, placed, planGet, planNew, planPage, planRelease, planSet, readyIn, readyRow, refused, releaseAt, releaseOn, reservesFor, setAt, setOn, standerIn, standing, standsAt, unheld, userIn, vacant, vacantAt, vacantIn}
+use Rattle.acts.specs.Rows.{isNone}
 use Rattle.acts.specs.Sight.{sightOf}
-use Rattle.rulebook.specs.History.{reading}
 use Rattle.rulebook.specs.Machine.{release}
 use Rattle.rulebook.specs.Sizes.{if_then_else_, lastSerial, serialOf, slotOf}
 use Rattle.rulebook.specs.Starts.{begun, noSlot, reserve, startGet, startNew, startPage, startSet, startable}
@@ -23,7 +23,7 @@ use Rattle.rules.specs.Facts.{live-stood}
 use Rattle.rules.specs.Rules.{Rules}
 use Rattle.theorems.specs.Invariant.Calls.{is-live}
 use Rattle.theorems.specs.Invariant.Shape.{Shape}
-use Rattle.bridge.specs.Searches.{first-good, first-lowest, first-same, good-if, isBad, isNone, row-search}
+use Rattle.bridge.specs.Searches.{first-good, first-lowest, first-same, good-if, isBad, row-search}
 use Rattle.acts.specs.declared.Found.the-variants as found
 use Rattle.acts.specs.declared.Live.the-variants as live
 use Rattle.rulebook.specs.declared.Stage.the-variants as stage

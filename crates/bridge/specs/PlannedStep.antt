@@ -19,7 +19,6 @@ use Rattle.acts.specs.Plans.{freeIn, goes, lastWord, refused, ticked}
 use Rattle.acts.specs.StepPlans.{appendsEntry, copyGoes, exchangesOn, fillsCopy, fillsNew, finishes, getGoes, givesUp, pageGoes, pageSettles, planAt, planRow, planStep, puts, readEntry, readGuess, readIn, readLength, readVersion, readsOld, takes, writesNew}
 use Rattle.acts.specs.Sight.{sightOf}
 use Rattle.acts.specs.Ways.{after-small}
-use Rattle.rulebook.specs.History.{reading}
 use Rattle.rulebook.specs.Sizes.{lastSerial}
 use Rattle.rulebook.specs.State.{State, blockAt, entryAt, freeBlock, handOf, logAt, reserves, slotAt, taskAt, withBlock, withTask, withVersion}
 use Rattle.rulebook.specs.Steps.{aimed, counted, exchanged, filled, finished, getStep, gotCopy, gotGet, gotPage, hereOf, middle, moved, noRoom, probed, probedAt, step, stepAt, taken}

@@ -10,10 +10,10 @@ use lib.ListN.{getD, length}
 use borrow.Author.Tests.{le-ltb, lt-ltb, ltb-false, ltb-true}
 use Rattle.acts.specs.declared.Found.{Found}
 use Rattle.acts.specs.Plans.{firstOf, foundIf, orElse}
+use Rattle.acts.specs.Rows.{isNone}
 use Rattle.rulebook.specs.Sizes.{if_then_else_}
 use Rattle.rulebook.specs.State.{any, lowest}
 use Rattle.rulebook.specs.Tests.{by-test, if-case}
-use Rattle.theorems.specs.Terms.{none}
 use Rattle.acts.specs.declared.Found.the-variants as found
 
 -- ---- a search that finds the places of a test
@@ -52,12 +52,6 @@ first-lowest q (suc m) =
     by-test (q m)
     (λ f. rw (e, low, f, lt-ltb m (suc m) (omega arith)))
     (λ f. rw (e, low, f, le-ltb (suc m) (suc m) (omega arith))))
-
--- something is found
-abbrev pub isNone : Found → Bool
-isNone found.Bad = false
-isNone (found.At j) = false
-isNone found.None = true
 
 abbrev pub isBad : Found → Bool
 isBad found.Bad = true

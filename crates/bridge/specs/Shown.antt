@@ -1,5 +1,5 @@
 -- What a call sees of a sound pool is the machine's state that the pool shows, wherever a call looks: its rows, and the words of its blocks.
--- Rests on pool's view, on block's reads and on the codes in the rows.
+-- Rests on layout's view, on block's reads and on the codes in the rows.
 use Prim.Native.Nat.{_<_, ℕ}
 use mathlib.Core.Bool.{true}
 use mathlib.Core.List.{List}
@@ -7,7 +7,7 @@ use mathlib.Core.Path.{_∙_, _≡_, ap, refl, subst, sym}
 use lib.ListN.{length}
 use borrow.Author.Tests.{eq-eqb, lt-ltb}
 use Rattle.rulebook.specs.declared.Sizes.{Sizes}
-use Rattle.acts.specs.Sight.{Sight, sightOf}
+use Rattle.acts.specs.Sight.{Sight}
 use Rattle.block.specs.Reads.{cell-reads, entry-reads, length-reads, version-reads}
 use Rattle.block.specs.Sound.{blockOf}
 use Rattle.layout.specs.Codes.{isCode}
@@ -37,12 +37,6 @@ pub record Shows (e : Sight) (s : State) : Type 0 where
   pub cell : (b i : ℕ) → b < s .sizes .b → i < s .sizes .n → e .cell b i ≡ looked.Word (cellAt (blockAt s b) i)
   pub log : (b i : ℕ) → b < s .sizes .b → i < s .sizes .n → stood s b ≡ true → e .log b i ≡ looked.Word (length (logAt (blockAt s b) i))
   pub entry : (b i j : ℕ) → b < s .sizes .b → i < s .sizes .n → stood s b ≡ true → j < length (logAt (blockAt s b) i) → e .entry b i j ≡ probed.Found (entryAt (logAt (blockAt s b) i) j)
-
--- the machine's state shows itself
-pub shows-itself : (s : State) → Shows (sightOf s) s
-unfolding sightOf
-shows-itself s =
-    record { sizes = refl; slot = λ j h. refl; task = λ t h. refl; version = λ b h. refl; cell = λ b i h q. refl; log = λ b i h q l. refl; entry = λ b i j h q l m. refl }
 
 module _ (d : Sizes) (p : List ℕ) where
   abbrev s : State

@@ -1,5 +1,5 @@
 -- When the words of a pool are a sound store: the check's rules 1 to 7. Rules 2 to 6 and the tasks' part of 7 speak of the machine's state that
--- the words show; the rest of 7 is the layout's own. Rests on rules, block and pool; nothing is proved here.
+-- the words show; the rest of 7 is the layout's own. Rests on rules, block and layout; nothing is proved here.
 use Prim.Native.Nat.{_<_, ℕ}
 use mathlib.Core.Bool.{true}
 use mathlib.Core.List.{List}

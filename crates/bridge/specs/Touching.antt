@@ -31,7 +31,6 @@ use Rattle.block.specs.Sound as blocks
 
 -- a touch that is done on block b, which then has the words z
 pub record Touches (d : Sizes) (p : List ℕ) (x : Touch) (b : ℕ) (z : List ℕ) : Type 0 where
-  pub near : touchNear d x ≡ true
   pub named : (k : ℕ) → blockNamed x k ≡ eqb k b
   pub done : touchedIn p d x .1 ≡ true
   pub room : Appendable d p x
@@ -61,7 +60,7 @@ module _ {d : Sizes} {p : List ℕ} (g : Spans d p) (b : ℕ) (h : b < d .b) whe
   unfolding putDone
   touches x z near named e done l room =
       let q = touched-near p d x near ∙ e in
-      record { near = near; named = named; done = ap (λ (y : List ℕ × Bool). y .1) q ∙ done; room = room; own = ap (λ (y : List ℕ × Bool). blockPart (y .0) d b) q ∙ done-own g b h z l }
+      record { named = named; done = ap (λ (y : List ℕ × Bool). y .1) q ∙ done; room = room; own = ap (λ (y : List ℕ × Bool). blockPart (y .0) d b) q ∙ done-own g b h z l }
 
   pub exchange-touches : (L : ℕ) → blockAt (viewOf d p) b .version ≡ L → L ≤ d .n
       → Touches d p (touch.Exchange b L) b (exchangeIn (d .n) (blockPart p d b) L .0) × (Laid (d .n) (blockPart p d b) → Laid (d .n) (exchangeIn (d .n) (blockPart p d b) L .0))

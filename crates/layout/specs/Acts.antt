@@ -4,7 +4,7 @@ use Prim.Native.Nat.{ℕ, _+_, _≤_, _<_}
 use mathlib.Core.Path.{_≡_, refl, sym, ap, _∙_}
 use mathlib.Core.Bool.{Bool, true, false, false≢true}
 use mathlib.Core.List.{List, [], _∷_, _++_}
-use lib.ListN.{length, length-set}
+use lib.ListN.{length}
 use lib.Dec.{leb, eqb}
 use borrow.Author.Tests.{ltb-true, leb-true, eqb-true}
 use Rattle.rulebook.specs.Tests.{by-test}
@@ -14,11 +14,11 @@ use Rattle.rulebook.specs.declared.Entry.{Entry}
 use Rattle.rulebook.specs.declared.Reply.{Reply}
 use Rattle.rulebook.specs.declared.Reply.the-variants as reply
 use Rattle.block.specs.Layout.{versionOf, isBlock, hasCell}
-use Rattle.block.specs.Words.{exchangeIn, writeIn, takeIn, fillIn, roomIn, stored, appendAt, appendIn}
+use Rattle.block.specs.Words.{exchangeIn, writeIn, fillIn, roomIn, appendAt, appendIn}
 use Rattle.block.specs.Sound.{blockOf, entriesIn, Laid}
 use Rattle.block.specs.Ways.{cell-block}
 use Rattle.block.specs.Reads.{version-at}
-use Rattle.block.specs.Writes.{exchange-first, write-done, take-done, fill-done}
+use Rattle.block.specs.Writes.{append-long, exchange-first, exchange-long, fill-done, fill-long, take-done, take-long, write-done, write-long}
 use Rattle.block.specs.Appends.{append-done}
 use Rattle.block.specs.Plans.{room-planned}
 use Rattle.block.specs.declared.change.Room.{Room}
@@ -37,37 +37,6 @@ use Rattle.layout.specs.Pool.{viewOf, putBlock, raised, putDone, touched
 use Rattle.layout.specs.Keeps.{none, only, Keeps, keeps-spans, keeps-all, keeps-both, slots-alone, tasks-alone, blocks-alone, slot-keeps, task-keeps, block-own, block-keeps, block-length, block-sized}
 use Rattle.layout.specs.Does.{done-near, touched-far, touched-near}
 use Rattle.layout.specs.View.{view-block-at, view-slot, view-task, view-block}
-
--- ---- a touch leaves a block as long as it was
-
-module _ (n : ℕ) (w : List ℕ) where
-  pub exchange-length : (l : ℕ) → length (exchangeIn n w l .0) ≡ length w
-  unfolding exchangeIn
-  exchange-length l =
-      by-test (isBlock n w)
-      (λ a. by-test (eqb (versionOf w) l) (λ b. by-test (leb l n) (λ c. rw (a, b, c) (length-set w 0 (l + 1))) (λ c. rw (a, b, c))) (λ b. rw (a, b)))
-      (λ a. rw a)
-
-  append-at-length : (r : Room) (i v o : ℕ) → length (appendAt r n w i v o .0) ≡ length w
-  unfolding appendAt stored
-  append-at-length (room.At s) i v o = simp length-set
-  append-at-length room.Full i v o = refl
-
-  pub append-length : (i v o : ℕ) → length (appendIn n w i v o .0) ≡ length w
-  unfolding appendIn
-  append-length i v o = append-at-length (roomIn n w i) i v o
-
-  pub write-length : (i v : ℕ) → length (writeIn n w i v .0) ≡ length w
-  unfolding writeIn
-  write-length i v = by-test (hasCell n w i) (λ a. simp (a, length-set)) (λ a. simp a)
-
-  pub take-length : length (takeIn n w .0) ≡ length w
-  unfolding takeIn
-  take-length = by-test (isBlock n w) (λ a. simp (a, length-set)) (λ a. simp a)
-
-  pub fill-length : (i v : ℕ) → length (fillIn n w i v .0) ≡ length w
-  unfolding fillIn
-  fill-length i v = by-test (hasCell n w i) (λ a. simp (a, length-set)) (λ a. simp a)
 
 -- the touched block has the words that its touch has left
 pub done-own : {d : Sizes} {p : List ℕ} → Spans d p → (k : ℕ) → k < d .b → (z : List ℕ × Bool) → length (z .0) ≡ length (blockPart p d k) → blockPart (putDone p d k z .0) d k ≡ z .0
@@ -97,15 +66,15 @@ module _ {d : Sizes} {p : List ℕ} (g : Spans d p) where
   unfolding touchedNear putDone touchNear blockNamed
   near-keeps touch.Nothing h = keeps-all d p none none none
   near-keeps (touch.Exchange k l) h =
-      let a = ltb-true k (d .b) h in block-keeps g k a _ (exchange-length (d .n) (blockPart p d k) l ∙ block-length g k a)
+      let a = ltb-true k (d .b) h in block-keeps g k a _ (exchange-long (d .n) (blockPart p d k) l ∙ block-length g k a)
   near-keeps (touch.Append k i e) h =
-      let a = ltb-true k (d .b) h in block-keeps g k a _ (append-length (d .n) (blockPart p d k) i (e .version) (e .old) ∙ block-length g k a)
+      let a = ltb-true k (d .b) h in block-keeps g k a _ (append-long (d .n) (blockPart p d k) i (e .version) (e .old) ∙ block-length g k a)
   near-keeps (touch.Write k i v) h =
-      let a = ltb-true k (d .b) h in block-keeps g k a _ (write-length (d .n) (blockPart p d k) i v ∙ block-length g k a)
+      let a = ltb-true k (d .b) h in block-keeps g k a _ (write-long (d .n) (blockPart p d k) i v ∙ block-length g k a)
   near-keeps (touch.Take k) h =
-      let a = ltb-true k (d .b) h in block-keeps g k a _ (take-length (d .n) (blockPart p d k) ∙ block-length g k a)
+      let a = ltb-true k (d .b) h in block-keeps g k a _ (take-long (d .n) (blockPart p d k) ∙ block-length g k a)
   near-keeps (touch.Fill k i v) h =
-      let a = ltb-true k (d .b) h in block-keeps g k a _ (fill-length (d .n) (blockPart p d k) i v ∙ block-length g k a)
+      let a = ltb-true k (d .b) h in block-keeps g k a _ (fill-long (d .n) (blockPart p d k) i v ∙ block-length g k a)
 
   pub touched-keeps : (x : Touch) → Keeps d p (touchedIn p d x .0) none none (blockNamed x)
   touched-keeps x =
@@ -181,21 +150,21 @@ module _ {d : Sizes} {p : List ℕ} (g : Spans d p) where
   view-near (touch.Exchange k l) h y a =
       let b = ltb-true k (d .b) h in
       let r = exchange-raised (d .n) (blockPart p d k) l y in
-      view-change k b _ (λ (z : Block). withVersion z (l + 1)) (exchange-length (d .n) (blockPart p d k) l) (exchange-first (block-sized g k b) l (r .0) (r .1) .1 .block)
+      view-change k b _ (λ (z : Block). withVersion z (l + 1)) (exchange-long (d .n) (blockPart p d k) l) (exchange-first (block-sized g k b) l (r .0) (r .1) .1 .block)
   view-near (touch.Append k i e) h y a =
       let b = ltb-true k (d .b) h in
-      view-change k b _ (λ (z : Block). withLog z i (logAt z i ++ (e ∷ []))) (append-length (d .n) (blockPart p d k) i (e .version) (e .old))
+      view-change k b _ (λ (z : Block). withLog z i (logAt z i ++ (e ∷ []))) (append-long (d .n) (blockPart p d k) i (e .version) (e .old))
       (append-done (a .laid k i e refl) i (e .version) (e .old) (append-cell (d .n) (blockPart p d k) i (e .version) (e .old) y) (a .less k i e refl) .1 .block)
   view-near (touch.Write k i v) h y a =
       let b = ltb-true k (d .b) h in
-      view-change k b _ (λ (z : Block). withCell z i v) (write-length (d .n) (blockPart p d k) i v)
+      view-change k b _ (λ (z : Block). withCell z i v) (write-long (d .n) (blockPart p d k) i v)
       (write-done (block-sized g k b) i v (write-cell (d .n) (blockPart p d k) i v y) .1 .block)
   view-near (touch.Take k) h y a =
       let b = ltb-true k (d .b) h in
-      view-change k b _ (λ (z : Block). withVersion z 0) (take-length (d .n) (blockPart p d k)) (take-done (block-sized g k b) .1)
+      view-change k b _ (λ (z : Block). withVersion z 0) (take-long (d .n) (blockPart p d k)) (take-done (block-sized g k b) .1)
   view-near (touch.Fill k i v) h y a =
       let b = ltb-true k (d .b) h in
-      view-change k b _ (λ (z : Block). withLog (withCell z i v) i []) (fill-length (d .n) (blockPart p d k) i v)
+      view-change k b _ (λ (z : Block). withLog (withCell z i v) i []) (fill-long (d .n) (blockPart p d k) i v)
       (fill-done (block-sized g k b) i v (fill-cell (d .n) (blockPart p d k) i v y) .2)
 
   pub view-touched : (x : Touch) → touchedIn p d x .1 ≡ true → Appendable d p x → viewOf d (touchedIn p d x .0) ≡ touched (viewOf d p) x

@@ -13,7 +13,6 @@ use Rattle.layout.specs.Pool.{appliedIn, sight}
 use Rattle.layout.specs.declared.Header.{Header}
 use Rattle.layout.specs.declared.Header.the-variants as header
 use Rattle.rulebook.specs.declared.Reply.the-variants as reply
-use Rattle.acts.specs.declared.Found.the-variants as found
 
 -- 1, or what the plan for what is seen does
 unfoldable pub calledIn : Header → List ℕ → (Sight → Act) → List ℕ × Reply

@@ -163,10 +163,6 @@ module _ {d : Sizes} {p : List ℕ} (g : Spans d p) where
   unfolding controlWords
   slots-first = omega arith
 
-  pub slot-length : (j : ℕ) → j < d .h → length (slotPart p j) ≡ handleRow
-  unfolding slotPart
-  slot-length j h = row-length p headerWords handleRow (d .h) slots-room j h
-
   pub task-length : (t : ℕ) → t < d .t → length (taskPart p d t) ≡ taskRow
   unfolding taskPart
   task-length t h = row-length p (taskBase d) taskRow (d .t) tasks-room t h

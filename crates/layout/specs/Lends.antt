@@ -1,7 +1,7 @@
 -- What the functions that lend a row or a block on owe: rules for their proofs.
 -- Rests on Places and Pool.
 use Prim.Native.Nat.{ℕ, _+_, _*_, _^_, _≤_, _<_}
-use mathlib.Core.Path.{_≡_, refl, sym, ap, _∙_, subst}
+use mathlib.Core.Path.{_≡_, refl, sym, ap, _∙_}
 use mathlib.Core.Bool.{Bool, true, false, not}
 use mathlib.Core.List.{List, _++_}
 use native.Mathlib.Nat.{mul-le-mul, mul-le-mul-left, mul-suc}
@@ -17,9 +17,6 @@ use Rattle.rulebook.specs.declared.Sizes.{Sizes}
 use Rattle.rulebook.specs.declared.Entry.{Entry}
 use Rattle.rulebook.specs.declared.Slot.{Slot}
 use Rattle.rulebook.specs.declared.Task.{Task}
-use Rattle.block.specs.Layout.{bumpOf}
-use Rattle.block.specs.Sound.{Laid}
-use Rattle.block.specs.Walk.{Decides}
 use Rattle.block.specs.Words.{versionIn, cellIn, lengthIn, entryIn, exchangeIn, appendIn, writeIn, takeIn, fillIn}
 use Rattle.block.specs.declared.Exchanged.{Exchanged}
 use Rattle.block.specs.declared.Looked.{Looked}
@@ -28,7 +25,7 @@ use Rattle.block.specs.declared.Probed.{Probed}
 use Rattle.block.specs.declared.Probed.the-variants as probed
 use Rattle.acts.specs.declared.Touch.{Touch}
 use Rattle.acts.specs.declared.Touch.the-variants as touch
-use Rattle.layout.specs.Parts.{part, splice, length-part}
+use Rattle.layout.specs.Parts.{part, splice}
 use Rattle.layout.specs.Rows.{slotWords, taskWords, taskFields}
 use Rattle.layout.specs.Places.{slotStart, taskStart, blockStart, taskPart, blockPart, Spans, Small, Place}
 use Rattle.layout.specs.Pool.{putSlot, putTask, putBlock, raised, putDone, touchNear, touchedIn, touchedNear, versionSeen, cellSeen, lengthSeen, entrySeen}
@@ -109,18 +106,8 @@ module _ (d : Sizes) (p : List ℕ) (k s e : ℕ) (q : Place d k s e) where
     pub place-end : e ≤ length p
     place-end = let f = block-ends g k h in omega (arith, q .stop)
 
-    pub place-head : 1 < length (part p s e)
-    unfolding blockWords
-    place-head = let f = block-ends g k h in let l = length-part p s e (omega (arith, q .start, q .stop)) place-end in omega (arith, q .start, q .stop)
-
     pub place-scaled : length p * 4 < 2 ^ 63 → Fits w64 (s * 4)
     place-scaled l = let f = block-ends g k h in omega (arith, q .start)
-
-  pub laid-got : (r : Bool) → Decides r (Laid (d .n) (part p s e)) → Decides r (Laid (d .n) (blockPart p d k))
-  laid-got r f = subst (λ (w : List ℕ). Decides r (Laid (d .n) w)) block-got f
-
-  pub bump-got : (r : ℕ) → r ≡ bumpOf (part p s e) → r ≡ bumpOf (blockPart p d k)
-  bump-got r f = f ∙ ap bumpOf block-got
 
   -- whether it is there
 
@@ -232,7 +219,7 @@ module _ (d : Sizes) (p : List ℕ) (k : ℕ) where
     unfolding entrySeen
     entry-near i j r f = f ∙ rw (block-got d p k s e q, lt-ltb k (d .b) h)
 
-pub ruleset lends = (slot-ends, task-ends, slot-put, task-put, spans-small, near-below, place-end, place-scaled, place-head, laid-got, bump-got)
+pub ruleset lends = (slot-ends, task-ends, slot-put, task-put, spans-small, near-below, place-end, place-scaled)
 
 pub ruleset nears = (few-small, near-many, near-not, near-so)
 

@@ -11,6 +11,7 @@ pub mod Lends
 pub mod Does
 pub mod Opens
 pub mod Keeps
+pub mod Raw
 pub mod Ranges
 pub mod View
 pub mod Acts

@@ -12,7 +12,6 @@ use borrow.Author.Tests.{ltb-true, ltb-false, leb-true, eqb-true, le-leb, eq-eqb
 use Rattle.rulebook.specs.Sizes.{mostCells, mostHandles, mostTasks, mostBlocks, mostWords, headerWords, controlWords, blockWords, room, within, opens}
 use Rattle.rulebook.specs.Tests.{by-test, and-both}
 use Rattle.rulebook.specs.declared.Sizes.{Sizes}
-use Rattle.layout.specs.declared.Header.{Header}
 use Rattle.layout.specs.declared.Header.the-variants as header
 use Rattle.layout.specs.Places.{Spans}
 use Rattle.layout.specs.Header.{mark, form, limited, sizesOf, sizesIn, headerOf}
@@ -178,7 +177,3 @@ described-spans p d s =
 
 pub header-spans : (p : List ℕ) (d : Sizes) → headerOf p ≡ header.Good d → Spans d p
 header-spans p d e = described-spans p d (header-describes p d e)
-
--- in the form in which a caller's match has it
-pub header-read : (p : List ℕ) (d : Sizes) (r : Header) → r ≡ headerOf p → r ≡ header.Good d → Spans d p
-header-read p d r e f = header-spans p d (sym e ∙ f)

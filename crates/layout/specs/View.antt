@@ -55,11 +55,7 @@ module _ (d : Sizes) (p : List ℕ) where
   unfolding viewOf
   view-block-at k h = listTo-get (d .b) (blockOn p) k noBlock h
 
-  -- each block has N cells, and a log for each
-  pub view-block-cells : (k : ℕ) → k < d .b → length (blockAt (viewOf d p) k .cells) ≡ d .n
-  unfolding blockOf
-  view-block-cells k h = rw (view-block-at k h) (listTo-length (d .n) _)
-
+  -- each block has a log for each of its N cells
   pub view-block-logs : (k : ℕ) → k < d .b → length (blockAt (viewOf d p) k .logs) ≡ d .n
   unfolding blockOf
   view-block-logs k h = rw (view-block-at k h) (listTo-length (d .n) _)

@@ -2,13 +2,12 @@
 -- proofs of the functions. Rests on Header and Rows.
 use Prim.Native.Nat.{ℕ, _+_, _-_, _/_, _≤_, _<_, min}
 use mathlib.Core.Path.{_≡_, refl, sym, ap, ap₂, _∙_}
-use mathlib.Core.Bool.{Bool, true, false, not, _&&_}
+use mathlib.Core.Bool.{Bool, true, false, not, _&&_, and-false}
 use mathlib.Core.List.{List, [], _∷_, _++_}
 use native.Mathlib.Nat.{min-eq-left, min-eq-right}
 use native.Mathlib.Omega.{arith}
 use lib.ListN.{length, getD, set, drop, drop-of-length-le}
 use lib.Seq.{sets, sets-eq}
-use lib.Dec.{eqb}
 use borrow.Author.Tests.{not-true, not-false, le-leb, lt-leb, le-ltb, lt-ltb, eq-eqb, ne-eqb}
 use Rattle.rulebook.specs.Sizes.{mostCells, mostHandles, mostTasks, mostBlocks, mostWords, controlWords, blockWords, room, lastSerial}
 use Rattle.rulebook.specs.declared.Sizes.{Sizes}
@@ -90,10 +89,6 @@ pub ruleset sizing = (sizes-unlimited, sizes-cells, sizes-handles, sizes-tasks, 
 
 -- ---- rows
 
-and-no : (x : Bool) → (x && false) ≡ false
-and-no true = refl
-and-no false = refl
-
 pub slot-good : (d : Sizes) (w : List ℕ) (s : Status) → getD w 1 0 < 3 → getD w 2 0 < d .b → getD w 3 0 ≤ d .n → getD w 0 0 ≤ lastSerial → s ≡ statusFrom (getD w 1 0)
     → slotrow.Row (record { serial = getD w 0 0; status = s; block = getD w 2 0; number = getD w 3 0 }) ≡ slotRowOf d w
 unfolding slotRowOf slotFits slotRead
@@ -119,12 +114,12 @@ module _ (d : Sizes) (w : List ℕ) where
   module _ (x : Bool) (e : x ≡ standsIn d (taskRead w)) where
     pub stage-nowhere : not x ≡ true → stagerow.Bad ≡ stageSeen (taskRowOf d w)
     unfolding taskRowOf taskFits
-    stage-nowhere q = rw (← e, not-true x q, and-no (isCode (getD w 0 0)))
+    stage-nowhere q = rw (← e, not-true x q, and-false (isCode (getD w 0 0)))
 
     module _ (y : Bool) (f : y ≡ worksIn d (taskRead w)) where
       pub stage-idles : not x ≡ false → not y ≡ true → stagerow.Bad ≡ stageSeen (taskRowOf d w)
       unfolding taskRowOf taskFits
-      stage-idles q r = rw (← e, not-false x q, ← f, not-true y r, and-no (isCode (getD w 0 0)))
+      stage-idles q r = rw (← e, not-false x q, ← f, not-true y r, and-false (isCode (getD w 0 0)))
 
       pub stage-is : (r : StageRow) → not x ≡ false → not y ≡ false → r ≡ stageCoded (getD w 0 0) → r ≡ stageSeen (taskRowOf d w)
       unfolding taskRowOf taskFits stageCoded

@@ -9,14 +9,9 @@ use block::Probed;
 use rulebook::Entry;
 use rulebook::Sizes;
 ghost use mathlib.Core.Path.{_≡_};
-ghost use Prim.Native.Nat.{_<_};
 ghost use lib.Dec.{ltb};
-ghost use lib.ListN.{length};
-ghost use Rattle.block.specs.Layout.{bumpOf};
-ghost use Rattle.block.specs.Sound.{Laid};
-ghost use Rattle.block.specs.Walk.{Decides};
 ghost use Rattle.acts.specs.declared.Touch.the-variants as touch;
-ghost use Rattle.layout.specs.Places.{Spans, Small, Place, blockPart};
+ghost use Rattle.layout.specs.Places.{Spans, Small, Place};
 ghost use Rattle.layout.specs.Pool.{cellSeen, entrySeen, lengthSeen, raised, touchedIn, versionSeen};
 
 // The words from start to end.
@@ -26,7 +21,7 @@ pub struct Extent {
 }
 
 // Where block k lies.
-fn extent_of(d: Sizes, k: u32) -> Extent
+pub fn extent_of(d: Sizes, k: u32) -> Extent
     requires { ⌜ Small d k ⌝ }
     ensures { λ r. ⌜ Place d k (r .start) (r .end) ⌝ }
 {
@@ -110,35 +105,6 @@ pub fn entry(pool: &[u32], d: Sizes, k: u32, i: u32, j: u32) -> Probed
     let s = x.start;
     let e = x.end;
     block::entry(&pool[s..e], d.n, i, j)
-}
-
-fn bump_of(b: &[u32]) -> u32
-    requires { ⌜ 1 < length (now b) ⌝ }
-    ensures { λ r. ⌜ r ≡ bumpOf (now (b .entry)) ⌝ }
-{
-    b[1]
-}
-
-// How many places of block k's arena are taken.
-pub fn bump(pool: &[u32], d: Sizes, k: u32) -> u32
-    requires { ⌜ Spans d (now pool) × (k < d .b) ⌝ }
-    ensures { λ r. ⌜ r ≡ bumpOf (blockPart (now (pool .entry)) d k) ⌝ }
-{
-    let x = extent_of(d, k);
-    let s = x.start;
-    let e = x.end;
-    bump_of(&pool[s..e])
-}
-
-// Whether block k's words are laid out as a block's are.
-pub fn laid(pool: &[u32], d: Sizes, k: u32) -> bool
-    requires { ⌜ Spans d (now pool) × (k < d .b) ⌝ }
-    ensures { λ r. ⌜ Decides r (Laid (d .n) (blockPart (now (pool .entry)) d k)) ⌝ }
-{
-    let x = extent_of(d, k);
-    let s = x.start;
-    let e = x.end;
-    block::laid(&pool[s..e], d.n)
 }
 
 // ---- touching: whether it was done

@@ -9,7 +9,6 @@ use super::wide;
 use layout::Header;
 use rulebook::Sizes;
 ghost use mathlib.Core.Path.{_≡_};
-ghost use Prim.Native.Nat.{_<_, _≤_};
 ghost use Rattle.layout.specs.Header.{limited, sizesIn, headerOf};
 
 const MOST_CELLS: u32 = 4096;

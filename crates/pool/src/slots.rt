@@ -8,7 +8,7 @@ use acts::SlotRow;
 use rulebook::Sizes;
 use rulebook::Slot;
 ghost use mathlib.Core.Path.{_≡_};
-ghost use Prim.Native.Nat.{_+_, _<_};
+ghost use Prim.Native.Nat.{_<_};
 ghost use lib.ListN.{length};
 ghost use Rattle.rulebook.specs.Sizes.{mostHandles, handleRow};
 ghost use Rattle.layout.specs.Places.{Spans, slotStart, slotPart};

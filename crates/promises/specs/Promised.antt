@@ -1,6 +1,6 @@
 -- All promises of one build of the C functions, as one record. Proofs.All shows it of the product's, `spoken`.
 -- Rests on Promises.
-use Rattle.promises.specs.Promises.{AnswerLength, AnswerRest, BusyBelow, CheckPasses, CheckSound, CheckTells, Kept, MachineAnswers, MachineHistory, MachineState, NumbersOnce, OpenDue, PagesJoin, PagesJoinAny, PoolLength, PoolRest, Priced, Reads, ReadsInOrder, RefusalDue, RefusalKeeps, RefusalZeros, SetsBound, ShortSlice, StaysSound, StepsCounted, StepsExact, Tables, TenHarmless, Undescribed}
+use Rattle.promises.specs.Promises.{AnswerLength, AnswerRest, BusyBelow, CheckPasses, CheckSound, CheckTells, Kept, MachineAnswers, MachineCall, MachineHistory, MachineState, NumbersOnce, OpenDue, PagesJoin, PagesJoinAny, PoolLength, PoolRest, Priced, Reads, ReadsInOrder, RefusalDue, RefusalKeeps, RefusalZeros, SetsBound, ShortSlice, StaysSound, StepsCounted, StepsExact, Tables, TenHarmless, Undescribed}
 use Rattle.promises.specs.Said.{Build}
 
 pub record Promised (f : Build) : Type 0 where
@@ -17,6 +17,7 @@ pub record Promised (f : Build) : Type 0 where
   pub ten-harmless : TenHarmless f
   pub check-tells : CheckTells f
   pub check-sound : CheckSound f
+  pub machine-call : MachineCall f
   pub machine-state : (k : Kept f) → MachineState f k
   pub machine-answers : (k : Kept f) → MachineAnswers f k
   pub machine-history : (k : Kept f) → MachineHistory f k

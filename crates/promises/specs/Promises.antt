@@ -15,12 +15,12 @@ use Rattle.layout.specs.Pool.{lieOf, viewOf}
 use Rattle.rulebook.specs.Answers.{operation}
 use Rattle.rulebook.specs.declared.Sizes.{Sizes}
 use Rattle.rulebook.specs.History.{Ended, Past, Value, fresh, past, run, setsBound, tableOf, workCode}
-use Rattle.rulebook.specs.Machine.{Call}
+use Rattle.rulebook.specs.Machine.{Call, call}
 use Rattle.rulebook.specs.Sizes.{blockWords, if_then_else_, opens, room}
 use Rattle.rulebook.specs.Starts.{opened}
 use Rattle.rulebook.specs.State.{State, busy, liveHandle, taskAt}
 use Rattle.theorems.specs.Terms.{Every, Harmless, HasGiven, In, IsRead, Once, Spent, byCell, causes, cellsOf, due, onVersion, price, shown, upTo, valuesOf}
-use Rattle.promises.specs.Said.{Ask, Build, Check, Request, Spoken, answerAfter, callsIn, isOpen, notedAll, numberOf, poolAfter, poolAll, stateIn, storeOf, tellings, toldAll, wordOf}
+use Rattle.promises.specs.Said.{Ask, Build, Check, Request, Spoken, answerAfter, callsIn, isOpen, notedAll, numberOf, poolAfter, poolAll, stateIn, storeOf, tellings, tells, told, toldAll, wordOf}
 
 -- f is a build of the C functions; the promises are made of `spoken`
 module _ (f : Build) where
@@ -54,7 +54,8 @@ module _ (f : Build) where
   abbrev pub RefusalZeros : Type 0
   RefusalZeros = (x : Request) (p a : List ℕ) → 16 ≤ length a → (numberOf f x p a ≡ 0 → ⊥) → (numberOf f x p a ≡ 10 → ⊥) → (j : ℕ) → j < 16 → wordOf (answerAfter f x p a) j ≡ 0
 
-  -- On any pool open returns 0 and tells B where N, H and T are within their limits and there is room for a block, else 3, whatever the words are.
+  -- On any pool, whatever its words are, open returns 3 where N, H or T is beyond its limits, the pool is above 4,294,967,295 words or there is no room for a
+  -- block; else 0, and tells B.
   abbrev pub OpenDue : Type 0
   OpenDue = (n h t : ℕ) (p a : List ℕ) → 16 ≤ length a → let o = opens n h t (length p) in let x = Ask (Open n h t) in (numberOf f x p a ≡ (if o then 0 else 3)) × (take 16 (answerAfter f x p a) ≡ (if o then room n h t (length p) else 0) ∷ replicate 15 0)
 
@@ -78,6 +79,13 @@ module _ (f : Build) where
   -- The check tells 0 exactly where the pool is a sound store.
   abbrev pub CheckSound : Type 0
   CheckSound = (p a : List ℕ) → 16 ≤ length a → let r = wordOf (answerAfter f Check p a) 0 in (r ≡ 0 → (d : Sizes) × Sound d p) × ((d : Sizes) → Sound d p → r ≡ 0)
+
+  -- ---- demand 2: of every pool that passes the check, kept or not
+
+  -- Each call but the check does what the rule book's machine does in the state that the pool shows: the pool then shows the machine's next state and passes the
+  -- check with that state's sizes, after an accepted open the new ones; the number and all 16 words are the machine's answer.
+  abbrev pub MachineCall : Type 0
+  MachineCall = (x : Asked) (p a : List ℕ) (d : Sizes) → Sound d p → 16 ≤ length a → let r = call (callOf x p) (stateIn p) in let q = poolAfter f (Ask x) p a in (stateIn q ≡ r .0) × (told (f (Ask x) p a) ≡ tells (r .1)) × Sound (r .0 .sizes) q
 
   -- ---- a kept store: any pool, an open that returned 0, and then any calls with any arguments and answer slices, and nothing else
 

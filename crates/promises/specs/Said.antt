@@ -68,6 +68,10 @@ answerAfter f x p a = f x p a .0 .1
 abbrev pub numberOf : Build → Request → List ℕ → List ℕ → ℕ
 numberOf f x p a = f x p a .1
 
+-- what is told: the number, and the first 16 words of the slice
+abbrev pub told : Outcome → ℕ × List ℕ
+told z = (z .1, take 16 (z .0 .1))
+
 -- the sizes of the store that a call is about: open's are those that it opens, the others' stand in words 0 to 5
 unfoldable pub storeOf : Request → List ℕ → Header
 storeOf (Ask (Open n h t)) p = sizesIn n h t (length p)
@@ -212,13 +216,13 @@ unfoldable pub poolAll : Build → List Spoken → List ℕ → List ℕ
 poolAll f [] p = p
 poolAll f (c ∷ cs) p = poolAll f cs (poolAfter f (c .call) p (c .slice))
 
--- what they told, of each that the machine has: the number, and the first 16 words of the slice
+-- what they told, of each that the machine has
 unfoldable pub toldAll : Build → List Spoken → List ℕ → List (ℕ × List ℕ)
 toldAll f [] p = []
 toldAll f (c ∷ cs) p =
     let z = f (c .call) p (c .slice) in
     let r = toldAll f cs (z .0 .0) in
-    if aside (c .call) (c .slice) then r else (z .1, take 16 (z .0 .1)) ∷ r
+    if aside (c .call) (c .slice) then r else told z ∷ r
 
 -- what a caller has noted after them, on top of y
 unfoldable pub notedAll : Build → List Spoken → List ℕ → Past → Past
@@ -236,7 +240,11 @@ unfoldable pub callsIn : Build → List Spoken → List ℕ → List Call
 callsIn f [] p = []
 callsIn f (c ∷ cs) p = amounts (c .call) (c .slice) p (callsIn f cs (poolAfter f (c .call) p (c .slice)))
 
--- the number and the 16 words of each of the machine's answers
+-- what an answer of the machine tells: its number and its 16 words
+abbrev pub tells : Reply → ℕ × List ℕ
+tells r = (refusal r, listTo 16 (λ (j : ℕ). word j r))
+
+-- what each of the machine's answers tells
 unfoldable pub tellings : List Reply → List (ℕ × List ℕ)
 tellings [] = []
-tellings (r ∷ rs) = (refusal r, listTo 16 (λ (j : ℕ). word j r)) ∷ tellings rs
+tellings (r ∷ rs) = tells r ∷ tellings rs

@@ -1,7 +1,6 @@
 -- What a caller sees of an answer: document 01's refusal number and the words of the answer, for every case; the codes of operation and stage.
 -- Rests on the types that the crate declares.
 use Prim.Native.Nat.{ℕ}
-use mathlib.Core.Bool.{Bool, true, false}
 use mathlib.Core.List.{List, [], _∷_}
 use lib.ListN.{getD}
 use Rattle.rulebook.specs.declared.Reading.{Reading}

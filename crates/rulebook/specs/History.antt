@@ -2,7 +2,7 @@
 -- Rests on the machine and the functional array. What is noted is read off the calls and their answers, as the caller sees them.
 use Prim.Native.Nat.{ℕ, _+_, _*_}
 use mathlib.Core.Path.{_≡_}
-use mathlib.Core.Bool.{Bool, true, false, not, _&&_, _||_}
+use mathlib.Core.Bool.{Bool, true, not, _&&_, _||_}
 use mathlib.Core.List.{List, [], _∷_, _++_}
 use lib.Dec.{eqb}
 use Rattle.rulebook.specs.declared.Stage.{Stage}

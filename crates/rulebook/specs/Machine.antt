@@ -1,14 +1,12 @@
 -- Release, the looks, the report; and every call of document 01 as one function from a state to the next state and an answer.
 -- Rests on Starts and Steps; refusals stand in document 01's order.
-use Prim.Native.Nat.{ℕ, _%_, _/_}
-use mathlib.Core.Bool.{Bool, not, _||_}
-use mathlib.Core.List.{List, [], _∷_}
-use lib.ListN.{length, getD}
-use lib.Dec.{ltb, leb, eqb}
-use Rattle.rulebook.specs.declared.Slot.{Slot}
+use Prim.Native.Nat.{ℕ}
+use mathlib.Core.Bool.{not, _||_}
+use lib.ListN.{length}
+use lib.Dec.{leb}
 use Rattle.rulebook.specs.declared.Reply.{Reply}
 use Rattle.rulebook.specs.declared.Reply.the-variants.{Refused, Quiet, Shown, ShownEntry, ShownTask, Reported}
-use Rattle.rulebook.specs.Sizes.{if_then_else_, slotOf, serialOf}
+use Rattle.rulebook.specs.Sizes.{if_then_else_, slotOf}
 use Rattle.rulebook.specs.State.{State, Result, freed, cellAt, logAt, entryAt, blockAt, slotAt, taskAt, withSlot, count, isLive, stood, liveHandle, inUse}
 use Rattle.rulebook.specs.Starts.{Lie, opening, startNew, startGet, startSet, startPage}
 use Rattle.rulebook.specs.Steps.{step}

@@ -2,17 +2,16 @@
 -- Rests on nothing: both sides are computed.
 use Prim.Native.Nat.{ℕ, zero, suc}
 use mathlib.Core.Path.{_≡_, refl}
-use mathlib.Core.Bool.{true, false}
 use mathlib.Core.List.{List, [], _∷_, _++_}
 use lib.ListN.{replicate}
 use Rattle.rulebook.specs.declared.Reply.{Reply}
-use Rattle.rulebook.specs.declared.Reply.the-variants.{Refused, Full, Quiet, Opened, Handed, HandedLast, Got, Made, Shown, ShownEntry, ShownTask, Reported}
+use Rattle.rulebook.specs.declared.Reply.the-variants.{Refused, Full, Quiet, Opened, HandedLast, Got, Made, Shown, ShownEntry, Reported}
 use Rattle.rulebook.specs.Sizes.{controlWords, blockWords, room, opens, lastSerial}
 use Rattle.rulebook.specs.State.{State, withBlock, withSlot, withTask, withVersion, withCell, withLog, any, lowest, count, listTo, stood, filling, held, freeBlock, freeSlot, liveHandle, inUse}
 use Rattle.rulebook.specs.Answers.{words}
 use Rattle.rulebook.specs.Starts.{Lie, opened, opening, startable, reserve, begun, startNew, startGet, startSet, startPage}
 use Rattle.rulebook.specs.Steps.{moved, aimed, counted, probed, getStep, finished, noRoom, taken, filled, gotGet, gotPage, gotCopy, exchanged, stepAt, step}
-use Rattle.rulebook.specs.Machine.{Call, Open, New, Get, Set, Page, Step, Release, LookVersion, LookCell, LookLog, LookEntry, LookTask, Report, call, release, lookVersion, lookCell, lookLog, lookEntry, lookTask, report}
+use Rattle.rulebook.specs.Machine.{Call, Open, New, Get, Set, Page, Step, Release, LookVersion, LookCell, LookLog, LookEntry, Report, call, release, lookVersion, lookCell, lookLog, lookEntry, lookTask, report}
 use Rattle.rulebook.specs.History.{Past, fresh, tableOf, stepped, started, released, noted, next, onward, run, setsBound}
 
 -- a session goes on where the one before it stopped

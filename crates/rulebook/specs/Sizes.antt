@@ -44,7 +44,7 @@ controlWords h t = headerWords + handleRow * h + taskRow * t
 unfoldable pub blockWords : ℕ → ℕ
 blockWords n = 20 * n + 16
 
--- how many chunks a cell's log may have
+-- how many chunks a cell's log may have: of our layout (docs/LAYOUT.md), not of document 01
 unfoldable pub directoryWidth : ℕ → ℕ
 directoryWidth n = 13
 

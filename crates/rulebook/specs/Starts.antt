@@ -1,21 +1,19 @@
 -- Opening a store, and starting a task: new, get, set and page.
 -- Rests on State; refusals stand in document 01's order.
-use Prim.Native.Nat.{ℕ, _+_, _%_, _/_}
-use mathlib.Core.Bool.{Bool, true, false, not, _&&_, _||_}
-use mathlib.Core.List.{List, []}
-use lib.ListN.{replicate, getD}
+use Prim.Native.Nat.{ℕ, _+_}
+use mathlib.Core.Bool.{Bool, not, _||_}
+use mathlib.Core.List.{List}
+use lib.ListN.{replicate}
 use lib.Dec.{ltb, leb, eqb}
-use Rattle.rulebook.specs.declared.Sizes.{Sizes}
 use Rattle.rulebook.specs.declared.Entry.{Entry}
 use Rattle.rulebook.specs.declared.Status.the-variants.{Reserved}
-use Rattle.rulebook.specs.declared.Slot.{Slot}
 use Rattle.rulebook.specs.declared.Reading.the-variants.{Guess}
 use Rattle.rulebook.specs.declared.Stage.{Stage}
 use Rattle.rulebook.specs.declared.Stage.the-variants.{TakeNew, Getting, Exchange, Paging}
 use Rattle.rulebook.specs.declared.Task.{Task}
 use Rattle.rulebook.specs.declared.Reply.the-variants.{Refused, Quiet, Opened}
 use Rattle.rulebook.specs.Sizes.{if_then_else_, room, opens, slotOf}
-use Rattle.rulebook.specs.State.{Block, State, Result, freed, handOf, idle, slotAt, taskAt, withSlot, withTask, listTo, busy, freeSlot, liveHandle}
+use Rattle.rulebook.specs.State.{State, Result, freed, handOf, idle, slotAt, taskAt, withSlot, withTask, listTo, busy, freeSlot, liveHandle}
 
 -- ---- open
 

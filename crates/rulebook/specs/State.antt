@@ -1,16 +1,15 @@
 -- Document 01, 'Blocks, handles, tasks': what a store is, and which blocks, slots and handles are held, free, live and in use.
 -- Rests on the types that the crate declares.
-use Prim.Native.Nat.{ℕ, zero, suc, _+_, _*_, _%_, _/_}
+use Prim.Native.Nat.{ℕ, zero, suc, _+_}
 use mathlib.Core.Bool.{Bool, true, false, not, _&&_, _||_}
-use mathlib.Core.List.{List, [], _∷_, _++_}
-use lib.ListN.{length, getD, set}
+use mathlib.Core.List.{List, [], _∷_}
+use lib.ListN.{getD, set}
 use lib.Dec.{ltb, eqb}
 use Rattle.rulebook.specs.declared.Sizes.{Sizes}
 use Rattle.rulebook.specs.declared.Entry.{Entry}
 use Rattle.rulebook.specs.declared.Status.{Status}
 use Rattle.rulebook.specs.declared.Status.the-variants.{Free, Reserved, Live}
 use Rattle.rulebook.specs.declared.Slot.{Slot}
-use Rattle.rulebook.specs.declared.Reading.{Reading}
 use Rattle.rulebook.specs.declared.Stage.{Stage}
 use Rattle.rulebook.specs.declared.Stage.the-variants.{Idle, TakeNew, FillNew, Getting, Exchange, Read, Append, Write, TakeCopy, Copying, FillCopy, Put, Paging}
 use Rattle.rulebook.specs.declared.Hand.{Hand}

@@ -1,30 +1,24 @@
 -- What the rules tell of a task at its next step: where its handle stands, which slot it has reserved, which block it fills, where it probes.
 -- Rests on Kept.
 use Prim.Native.Nat.{_+_, _<_, _≤_, ℕ}
-use mathlib.Core.Bool.{false≢true, true}
+use mathlib.Core.Bool.{true}
 use mathlib.Core.List.{List}
-use mathlib.Core.Path.{_∙_, _≡_, ap, refl, subst, subst₂, sym}
+use mathlib.Core.Path.{_∙_, _≡_, ap, refl, subst, subst₂}
 use native.Mathlib.Omega.{arith}
-use lib.Dec.{leb, ltb}
-use lib.ListN.{List·getD-eq-default, length}
-use borrow.Author.Tests.{ltb-false, ltb-true}
+use lib.ListN.{length}
 use Rattle.rulebook.specs.declared.Entry.{Entry}
 use Rattle.rulebook.specs.declared.Hand.{Hand}
 use Rattle.rulebook.specs.declared.Reading.{Reading}
 use Rattle.rulebook.specs.declared.Reading.the-variants.{Guess, Length, Probe, Version}
-use Rattle.rulebook.specs.declared.Slot.{Slot}
 use Rattle.rulebook.specs.declared.Stage.{Stage}
 use Rattle.rulebook.specs.declared.Stage.the-variants.{Append, Copying, Getting, Paging}
 use Rattle.rulebook.specs.declared.Status.the-variants.{Live, Reserved}
 use Rattle.rulebook.specs.declared.Task.{Task}
-use Rattle.rulebook.specs.Sizes.{lastSerial, publicNumber}
-use Rattle.rulebook.specs.State.{Block, State, blockAt, busy, fills, freed, idle, logAt, names, reserves, slotAt, taskAt, writes}
-use Rattle.rulebook.specs.Steps.{hereOf, middle, probed}
-use Rattle.rulebook.specs.Tests.{by-test, if-case}
-use Rattle.theorems.specs.Invariant.Blocks.{free≢live}
+use Rattle.rulebook.specs.Sizes.{lastSerial}
+use Rattle.rulebook.specs.State.{State, blockAt, fills, logAt, names, reserves, slotAt, taskAt, writes}
+use Rattle.rulebook.specs.Steps.{hereOf, middle}
 use Rattle.theorems.specs.Invariant.Facts.{ok-filler, ok-fresh}
-use Rattle.theorems.specs.Invariant.Shape.{Shape}
-use Rattle.theorems.specs.Prices.Budget.{passed-next, passed-total}
+use Rattle.theorems.specs.Prices.Budget.{log-entries}
 use Rattle.theorems.specs.Prices.Digits.{Unsettled}
 use Rattle.theorems.specs.Terms.{entries, versionAt}
 use Rattle.rules.specs.Erase.{eraseTask}
@@ -42,35 +36,12 @@ doing-names a-get = refl
 doing-names a-page = refl
 doing-names a-copy = refl
 
--- a log has at most the entries of its block
-pub log-entries : (b : Block) (i : ℕ) → length (logAt b i) ≤ entries (b .logs)
-log-entries b i = omega (arith, passed-total b (i + 1), passed-next b i)
-
 -- a get that has not read all it needs
 pub unsettled : (r : Reading) (l : List Entry) (n : ℕ) (w : Hand) → InHand r l n w → Unsettled r w
 unsettled Guess l n w h = tt
 unsettled Version l n w h = tt
 unsettled Length l n w h = tt
 unsettled Probe l n w h = h .left
-
--- a probe stays within the search
-pub probed-within : (l : List Entry) (n : ℕ) (w : Hand) → w .lo < w .hi → (probed l n w .lo ≤ w .hi) × (probed l n w .hi ≤ w .hi)
-unfolding probed
-probed-within l n w h =
-    if-case (λ (q : Hand). (q .lo ≤ w .hi) × (q .hi ≤ w .hi)) (leb n (versionAt l (middle w))) (λ _. (omega arith, omega arith)) (λ _. (omega arith, omega arith))
-
--- what is live or busy is there
-pub live-below : (s : State) → Shape s → (j : ℕ) → slotAt s j .status ≡ Live → j < s .sizes .h
-live-below s sh j l =
-    by-test (ltb j (s .sizes .h)) (λ e. ltb-true j (s .sizes .h) e)
-    (λ e. let out = List·getD-eq-default (s .slots) (freed 0) (omega (arith, ltb-false j (s .sizes .h) e, sh .slots-len)) in
-    absurd (free≢live (sym (ap (λ (x : Slot). x .status) out) ∙ l)))
-
-pub busy-below : (s : State) → Shape s → (t : ℕ) → busy (taskAt s t .stage) ≡ true → t < s .sizes .t
-busy-below s sh t b =
-    by-test (ltb t (s .sizes .t)) (λ e. ltb-true t (s .sizes .t) e)
-    (λ e. let out = List·getD-eq-default (s .tasks) idle (omega (arith, ltb-false t (s .sizes .t) e, sh .tasks-len)) in
-    absurd (false≢true (sym (ap (λ (x : Task). busy (x .stage)) out) ∙ b)))
 
 -- where a live handle of number n stands
 pub record Stood (s : State) (b n : ℕ) : Type 0 where
@@ -107,11 +78,6 @@ module _ (s : State) (h : Rules s) where
 
     pub reserved-slot : reserves (k .stage) ≡ true → (k .fresh < s .sizes .h) × (slotAt s (k .fresh) .status ≡ Reserved) × (slotAt s (k .fresh) .serial < lastSerial)
     reserved-slot n = let r = ok-fresh _ _ _ _ _ (eraseTask k) (k .stage) n (structure s h .oks t) in (r .inH, r .is-reserved, r .spare)
-
-    -- the public number that it is to get is a word
-    pub public-fits : Shape s → reserves (k .stage) ≡ true → publicNumber (k .fresh) (slotAt s (k .fresh) .serial + 1) < 4294967296
-    unfolding lastSerial
-    public-fits sh n = let r = reserved-slot n in omega (arith, r .0, r .2, sh .few-slots)
 
     -- ---- the block that it fills
 

@@ -5,8 +5,6 @@ use mathlib.Core.Bool.{true}
 use mathlib.Core.List.{List}
 use mathlib.Core.Path.{_∙_, _≡_, ap, fun-ext, refl, subst, subst⁻¹, subst₂, sym}
 use native.Mathlib.Omega.{arith}
-use lib.Dec.{eqb}
-use borrow.Author.Tests.{eqb-false, eqb-true}
 use Rattle.rulebook.specs.declared.Entry.{Entry}
 use Rattle.rulebook.specs.declared.Reading.{Reading}
 use Rattle.rulebook.specs.declared.Stage.{Stage}
@@ -17,12 +15,12 @@ use Rattle.rulebook.specs.Machine.{Call, call}
 use Rattle.rulebook.specs.Starts.{Lie, opened}
 use Rattle.rulebook.specs.State.{Block, State, blockAt, fills, logAt, names, reserves, slotAt, taskAt, writes}
 use Rattle.rulebook.specs.Steps.{hereOf}
-use Rattle.rulebook.specs.Tests.{by-test}
 use Rattle.theorems.specs.Invariant.Calls.{inv-call, inv-opened}
 use Rattle.theorems.specs.Invariant.Facts.{ok-filler, ok-fresh, ok-named, ok-writer}
 use Rattle.theorems.specs.Invariant.Moves.{Inv, InvS}
 use Rattle.theorems.specs.Invariant.Shape.{Shape}
 use Rattle.theorems.specs.Invariant.Tasks.{Copied, Covered, Early, Filler, Fresh, Holds, Named, OkAt, Reads, Stands, Writer}
+use Rattle.theorems.specs.Proofs.Valid.{not-two}
 use Rattle.theorems.specs.Reading.Get.{Good}
 use Rattle.theorems.specs.Terms.{Valid, entries, valueAt}
 use Rattle.rules.specs.Blind.{erase-call, erase-opened}
@@ -183,26 +181,23 @@ module _ (s : State) where
         v-at-most = λ j l. iv .stands j l .top;
         below-v = λ j l. let b = on j in from-erased (Under (b .version)) b (iv .stands j l .below);
         rising = λ j l. from-erased Rising (on j) (iv .stands j l .rises);
-        in-one-log = λ j l i k p q hp hq e. same i k (λ d. from-erased InOne (on j) (iv .stands j l .distinct) i k p q d hp hq e);
+        in-one-log = λ j l i k p q hp hq e. not-two i k (λ d. from-erased InOne (on j) (iv .stands j l .distinct) i k p q d hp hq e);
         few-entries = λ j l. let b = on j in
             omega (arith, from-erased (AtMost (b .version)) b (iv .stands j l .few), from-erased (AtMost (s .sizes .n)) b (iv .stands j l .few-cells));
         apart = iv .unique;
         named-live = λ t n. let h = ok-named _ _ _ _ _ (τ t) (taskAt s t .stage) n (iv .oks t) in (h .lives, h .on, h .at);
         one-owner = iv .owned;
-        own-slot = λ t u a b e. same t u (λ d. iv .apart t u d .a-fresh a b e);
+        own-slot = λ t u a b e. not-two t u (λ d. iv .apart t u d .a-fresh a b e);
         is-reserved = λ t r. let h = ok-fresh _ _ _ _ _ (τ t) (taskAt s t .stage) r (iv .oks t) in (h .inH, h .is-reserved);
-        one-filler = λ t u a b e. same t u (λ d. iv .apart t u d .a-fill a b e);
+        one-filler = λ t u a b e. not-two t u (λ d. iv .apart t u d .a-fill a b e);
         none-on-it = λ t j f l o. ok-filler _ _ _ _ _ (τ t) (taskAt s t .stage) f (iv .oks t) .alone j l o;
-        one-writer = λ t u a b e. same t u (λ d. iv .apart t u d .a-write a b e);
+        one-writer = λ t u a b e. not-two t u (λ d. iv .apart t u d .a-write a b e);
         just-raised = λ t w. ok-writer _ _ _ _ _ (τ t) (taskAt s t .stage) w (iv .oks t) .1 .raised;
         none-above = λ t j w l o. ok-writer _ _ _ _ _ (τ t) (taskAt s t .stage) w (iv .oks t) .1 .oldest j l o;
       }
     where
       on : ℕ → Block
       on j = blockAt s (slotAt s j .block)
-
-      same : (i k : ℕ) → ((i ≡ k → ⊥) → ⊥) → i ≡ k
-      same i k h = by-test (eqb i k) (λ e. eqb-true i k e) (λ e. absurd (h (eqb-false i k e)))
 
   pub inv-rules : InvS (erase s) → Rules s
   inv-rules iv = let h = to-structure iv in record { valid = from-valid h; tasks = λ t. from-ok (taskAt s t .stage) (taskAt s t) (h .oks t) }

@@ -19,15 +19,15 @@ use Rattle.theorems.specs.Terms.{Valid, entries, versionAt}
 
 -- ---- rule 7, task by task: the get in hand
 
--- a search of the log l for number L: it is not over and stays inside the log; every entry below lo is older than L; the candidate is the entry
--- at hi, of version L or more
+-- a search of the log l for number L: it is not over and stays inside the log; every entry below lo is older than L; the candidate's version is
+-- that of the entry at hi, L or more
 pub record Seeks (l : List Entry) (L : ℕ) (w : Hand) : Type 0 where
   pub left : w .lo < w .hi
   pub inside : w .hi ≤ length l
   pub below : (j : ℕ) → j < w .lo → versionAt l j < L
   pub candidate : w .found ≡ true → (w .hi < length l) × (w .version ≡ versionAt l (w .hi)) × (L ≤ versionAt l (w .hi))
 
--- before its search a get has no candidate
+-- before its search a get has no candidate; at its guess nothing is asked, as that step clears the hand
 abbrev pub InHand : Reading → List Entry → ℕ → Hand → Type 0
 InHand Guess l L w = Unit
 InHand Version l L w = w .found ≡ false

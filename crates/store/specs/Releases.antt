@@ -1,7 +1,7 @@
 -- For each function of a release, one law for each way out.
 -- Rests on Started.
 use Prim.Native.Nat.{_-_, _<_, ℕ}
-use mathlib.Core.Bool.{_&&_, not}
+use mathlib.Core.Bool.{_&&_}
 use mathlib.Core.List.{List}
 use mathlib.Core.Path.{_∙_, _≡_, ap, refl, subst, sym}
 use native.Mathlib.Omega.{arith}

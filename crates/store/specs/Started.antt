@@ -17,14 +17,14 @@ use Rattle.rulebook.specs.declared.Sizes.{Sizes}
 use Rattle.rulebook.specs.declared.Slot.{Slot}
 use Rattle.rulebook.specs.declared.Stage.{Stage}
 use Rattle.rulebook.specs.declared.Task.{Task}
-use Rattle.acts.specs.Plans.{begunOn, getOn, goes, liveIn, liveRow, maker, newOn, pageOn, planGet, planNew, planPage, planSet, readyIn, readyRow, refused, reservedAs, reservesFor, setAt, setOn, vacantIn}
+use Rattle.acts.specs.Plans.{begunOn, getOn, goes, liveIn, maker, newOn, pageOn, planGet, planNew, planPage, planSet, readyIn, readyRow, refused, reservedAs, reservesFor, setAt, setOn, vacantIn}
 use Rattle.acts.specs.Said.{saidOf, toldIn}
 use Rattle.layout.specs.Codes.{codeOf, isCode, stageFrom, stageOf}
 use Rattle.layout.specs.Keeps.{keeps-spans, slot-keeps}
 use Rattle.layout.specs.Places.{Spans, taskPart}
 use Rattle.layout.specs.Pool.{appliedIn, putSlot, putTask, sight, slotSeen, taskSeen}
 use Rattle.layout.specs.Rows.{taskRead, taskSeenOf}
-use Rattle.rulebook.specs.Sizes.{if_then_else_, slotOf}
+use Rattle.rulebook.specs.Sizes.{if_then_else_}
 use Rattle.rulebook.specs.State.{busy}
 use Rattle.rulebook.specs.Tests.{by-test}
 use Rattle.work.specs.Asked.{FoundBelow}

@@ -12,7 +12,6 @@ use work::searches::live_handles;
 use work::searches::stander;
 use work::searches::stood_blocks;
 ghost use mathlib.Core.Path.{_≡_};
-ghost use Prim.Native.Nat.{_<_};
 ghost use Rattle.acts.specs.Looks.{unseenIn, seesUnder};
 ghost use Rattle.layout.specs.Places.{Spans};
 ghost use Rattle.layout.specs.Pool.{sight};

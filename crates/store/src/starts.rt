@@ -20,7 +20,7 @@ use rulebook::Task;
 use work::searches::user;
 use work::searches::vacancy;
 ghost use mathlib.Core.Path.{_≡_};
-ghost use Prim.Native.Nat.{_%_, _<_};
+ghost use Prim.Native.Nat.{_<_};
 ghost use Rattle.acts.specs.Plans.{getOn, liveIn, newOn, pageOn, placed, planGet, planNew, planPage, planRelease, planSet, readyIn, reservesFor, setAt, setOn, vacantIn};
 ghost use Rattle.acts.specs.Said.{toldIn};
 ghost use Rattle.layout.specs.Places.{Spans};

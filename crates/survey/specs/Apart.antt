@@ -19,7 +19,7 @@ use Rattle.rulebook.specs.Sizes.{if_then_else_}
 use Rattle.rulebook.specs.Tests.{by-test}
 use Rattle.survey.specs.Broken.{rule5}
 use Rattle.survey.specs.Decided.{decides-5}
-use Rattle.survey.specs.Reads.{standsOn}
+use Rattle.survey.specs.Searches.{standsOn}
 use Rattle.survey.specs.Rules.{Rule5, slot}
 use Rattle.survey.specs.Ways.{slot-as}
 use Rattle.survey.specs.Chains.{Chained, Last, last-is, last-none, last-within, lastTo, none, stands-below, stands-both, stands-yes}

@@ -21,7 +21,7 @@ use Rattle.rulebook.specs.State.{isLive}
 use Rattle.rulebook.specs.Tests.{and-both, by-test}
 use Rattle.survey.specs.Decided.{live-below}
 use Rattle.survey.specs.DecideTasks.{live-decides}
-use Rattle.survey.specs.Reads.{stands-live, stands-not, standsOn}
+use Rattle.survey.specs.Searches.{stands-live, stands-not, standsOn}
 use Rattle.survey.specs.Rules.{Lives, Rule2, slot}
 
 -- no slot and no block: where a chain ends, and the mark of a number that is not met

@@ -16,7 +16,7 @@ use Rattle.block.specs.Ways.{block-sized, sized-block}
 use Rattle.rulebook.specs.State.{Block, logAt}
 use Rattle.rulebook.specs.Tests.{by-test}
 use Rattle.theorems.specs.Terms.{versionAt}
-use Rattle.survey.specs.Broken.{allApart, allBelow, allRise, everyEntry, everyPlace, fillingIn, laidIn, readableIn}
+use Rattle.survey.specs.Holds.{allApart, allBelow, allRise, everyEntry, everyPlace, fillingIn, laidIn, readableIn}
 use Rattle.survey.specs.Decide.{decide-all, decide-and, decide-as, decide-eq, decide-le, decide-lt, decide-only, decide-test}
 use Rattle.survey.specs.Rules.{Readable}
 
@@ -65,9 +65,9 @@ apart-decides b =
 pub readable-decides : (n : ℕ) (w : List ℕ) → Decides (readableIn n w) (Readable n w)
 unfolding readableIn
 readable-decides n w =
-    decide-as (decide-all n (λ i _. decide-and (decide-le (lengthOf n w i) n) (decide-all (lengthOf n w i) (λ q _. decide-lt (placeOf n w i q) (arena n)))))
-    (λ h. record { short = λ i l. h i l .0; inside = λ i q l m. h i l .1 q m })
-    (λ r i l. (r .short i l, λ q m. r .inside i q l m))
+    decide-as (decide-all n (λ i _. decide-all (lengthOf n w i) (λ q _. decide-lt (placeOf n w i q) (arena n))))
+    (λ h. record { inside = λ i q l m. h i l q m })
+    (λ r i l q m. r .inside i q l m)
 
 module _ (n : ℕ) (w : List ℕ) {f : ℕ → ℕ → Bool} {P : ℕ → ℕ → Type 0} (x : (i j : ℕ) → Decides (f i j) (P i j)) where
   every-place : Decides (everyPlace n w f) ((i : ℕ) → i < n → (j : ℕ) → j < spaceOf (lengthOf n w i) → P i j)

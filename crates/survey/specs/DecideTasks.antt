@@ -22,7 +22,7 @@ use Rattle.rules.specs.Paced.{Pace, SlotRange, TaskRange, copySteps}
 use Rattle.rules.specs.Rules.{Fills, Gets, InHand, Seeks, TaskRule, ToAppend, ToWrite, Unspent}
 use Rattle.theorems.specs.Prices.Digits.{leftOf}
 use Rattle.theorems.specs.Terms.{digits, versionAt, entries}
-use Rattle.survey.specs.Broken.{bareHand, bareTask, fillsTo, getsIn, inHand, interior, isReserved, onCell, onHand, paceHolds, rangeHolds, seeksIn, slotHolds, taskHolds, toAppend, toWrite, unspent}
+use Rattle.survey.specs.Holds.{bareHand, bareTask, fillsTo, getsIn, inHand, interior, isReserved, onCell, onHand, paceHolds, rangeHolds, seeksIn, slotHolds, taskHolds, toAppend, toWrite, unspent}
 use Rattle.survey.specs.Decide.{decide-all, decide-always, decide-and, decide-as, decide-eq, decide-five, decide-le, decide-lt, decide-never, decide-not, decide-only, decide-some, decide-test, decide-three}
 use Rattle.survey.specs.DecideBlocks.{below-decides, every-entry}
 use Rattle.rulebook.specs.declared.Stage.the-variants as stage

@@ -26,7 +26,8 @@ use Rattle.rulebook.specs.Tests.{by-test}
 use Rattle.rules.specs.Paced.{SlotRange, TaskRange}
 use Rattle.rules.specs.Rules.{TaskRule}
 use Rattle.theorems.specs.Terms.{allTo, entries}
-use Rattle.survey.specs.Broken.{clearOf, everyBusy, everyLive, everySlot, everyTask, factsAt, fillingAt, freshApart, freshAt, isReserved, laidAt, namedAt, notAbove, offTarget, ownerAt, ownsAt, rule2, rule2At, rule3, rule4, rule4At, rule5, rule5At, rule6, rule6At, rule7, slotSound, standsAs, targetApart, targetAt, taskSound, writerApart, writerAt}
+use Rattle.survey.specs.Broken.{clearOf, everyBusy, everyLive, everySlot, everyTask, factsAt, fillingAt, freshApart, freshAt, laidAt, namedAt, notAbove, offTarget, ownerAt, ownsAt, rule2, rule2At, rule3, rule4, rule4At, rule5, rule5At, rule6, rule6At, rule7, slotSound, targetApart, targetAt, taskSound, writerApart, writerAt}
+use Rattle.survey.specs.Holds.{isReserved, standsAs}
 use Rattle.survey.specs.Decide.{decide-all, decide-and, decide-as, decide-eq, decide-le, decide-lt, decide-never, decide-only, decide-some, decide-test, decide-three}
 use Rattle.survey.specs.DecideBlocks.{apart-decides, below-decides, filling-decides, laid-decides, readable-decides, rise-decides}
 use Rattle.survey.specs.DecideTasks.{live-decides, range-decides, reserved-decides, slot-decides, task-decides}

@@ -1,11 +1,12 @@
 pub mod Rules
 pub mod Whole
 pub mod Decide
+pub mod Holds
 pub mod Broken
 pub mod DecideBlocks
 pub mod DecideTasks
 pub mod Decided
-pub mod Reads
+pub mod Searches
 pub mod Stands
 pub mod Logs
 pub mod Walk

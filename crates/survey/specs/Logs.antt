@@ -6,9 +6,9 @@ use mathlib.Core.List.{List}
 use mathlib.Core.Path.{_∙_, _≡_, ap, subst, sym}
 use native.Mathlib.Nat.{not-suc-le-zero}
 use native.Mathlib.Omega.{arith}
-use lib.Dec.{eqb}
+use lib.Dec.{eqb, leb}
 use lib.ListN.{length}
-use borrow.Author.Tests.{eqb-false, eqb-true}
+use borrow.Author.Tests.{eqb-false, eqb-true, leb-false, leb-true}
 use Rattle.rulebook.specs.declared.Entry.{Entry}
 use Rattle.rulebook.specs.declared.Sizes.{Sizes}
 use Rattle.rulebook.specs.declared.Slot.{Slot}
@@ -38,12 +38,16 @@ pub record EntryRule (n : ℕ) (w : List ℕ) (i j : ℕ) : Type 0 where
   pub rise : 0 < j → stampOf n w i (j - 1) < stampOf n w i j
 
 pub record LogRule (n : ℕ) (w : List ℕ) (i : ℕ) : Type 0 where
-  pub short : lengthOf n w i ≤ n
   pub entries : (j : ℕ) → j < lengthOf n w i → EntryRule n w i j
 
 pub record BlockRule (n : ℕ) (w : List ℕ) : Type 0 where
   pub logs : (i : ℕ) → i < n → LogRule n w i
   pub apart : (i k j t : ℕ) → i < n → k < n → j < lengthOf n w i → t < lengthOf n w k → stampOf n w i j ≡ stampOf n w k t → i ≡ k
+
+-- the logs can be walked: none has more entries than there are versions, and every entry lies in the arena
+pub record Walkable (n : ℕ) (w : List ℕ) : Type 0 where
+  pub short : (i : ℕ) → i < n → lengthOf n w i ≤ n + 1
+  pub inside : (i q : ℕ) → i < n → q < lengthOf n w i → placeOf n w i q < arena n
 
 -- ---- the same of the block that the words are
 
@@ -79,8 +83,26 @@ module _ (n : ℕ) (w : List ℕ) where
         (λ e. let z : stampOf n w i q ≡ stampOf n w i t = ap (stampOf n w i) (eqb-true q t e) in omega arith)
         (λ e. let z = climb i q t a (omega (arith, eqb-false q t e)) (omega arith) in omega arith)
 
+    -- so entry q has at least version q, and a log at most V entries
+    stamp-least : (i q : ℕ) → i < n → q < lengthOf n w i → q ≤ stampOf n w i q
+    stamp-least i zero a l = omega arith
+    stamp-least i (suc q) a l = let y = stamp-least i q a (omega arith) in let z = climb i q (suc q) a (omega arith) l in omega arith
+
+    pub rule-short : (i : ℕ) → i < n → lengthOf n w i ≤ versionOf w
+    rule-short i a =
+        by-test (leb (lengthOf n w i) (versionOf w))
+        (λ e. leb-true (lengthOf n w i) (versionOf w) e)
+        (λ e.
+        let l = leb-false (lengthOf n w i) (versionOf w) e in
+        let y = stamp-least i (versionOf w) a l in
+        let z = r .logs i a .entries (versionOf w) l .below in
+        absurd (omega arith))
+
     pub rule-readable : Readable n w
-    rule-readable = record { short = λ i a. r .logs i a .short; inside = λ i q a l. r .logs i a .entries q l .inside }
+    rule-readable = record { inside = λ i q a l. r .logs i a .entries q l .inside }
+
+    pub rule-walkable : versionOf w ≤ n + 1 → Walkable n w
+    rule-walkable v = record { short = λ i a. (let z = rule-short i a in omega arith); inside = λ i q a l. r .logs i a .entries q l .inside }
 
     pub rule-kept : Kept (blockOf n w)
     rule-kept =
@@ -106,7 +128,6 @@ module _ (n : ℕ) (w : List ℕ) where
     kept-rule =
         record {
           logs = λ i c. record {
-            short = a .short i c;
             entries = λ j l.
                 let b = back i j c l in
                 record {
@@ -165,3 +186,9 @@ module _ (d : Sizes) (p : List ℕ) (two : Rule2 d p) where
       let z : blockAt (shown d p) k .version ≤ d .n + 1 = subst (λ (x : ℕ). blockAt (shown d p) x .version ≤ d .n + 1) (s .2) (two .v-at-most (s .0) (s .1)) in
       let q : blockAt (shown d p) k .version ≡ versionOf (blockPart p d k) = ap (λ (b : Block). b .version) (view-block-at d p k l) ∙ version-at (d .n) (blockPart p d k) in
       omega arith
+
+  pub stood-walkable : Rule3 d p → (k : ℕ) → k < d .b → stood (shown d p) k ≡ true → Walkable (d .n) (blockPart p d k)
+  stood-walkable r k l e = rule-walkable (d .n) (blockPart p d k) (three-blocks r k l e) (stood-version k l e)
+
+  pub live-walkable : Rule3 d p → (j : ℕ) → Lives d p j → Walkable (d .n) (blockPart p d (slot d p j .block))
+  live-walkable r j l = stood-walkable r (slot d p j .block) (two .below-b j l) (live-stood d p j l)

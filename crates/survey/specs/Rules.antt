@@ -1,5 +1,5 @@
 -- Document 01, 'The check': rules 1 to 7, in its order, of the header, of the state that the words show, and of the words. A number that points
--- outside the pool or its block breaks the first rule that has to read through it. Rests on rules, block and pool; nothing is proved here.
+-- outside the pool or its block breaks the first rule that has to read through it. Rests on rules, block and layout; nothing is proved here.
 use Prim.Native.Nat.{_+_, _<_, _≤_, min, ℕ}
 use mathlib.Core.Bool.{true}
 use mathlib.Core.List.{List}
@@ -27,9 +27,8 @@ use Rattle.rulebook.specs.declared.Status.the-variants as status
 pub record Rule1 (p : List ℕ) : Type 0 where
   pub described : headerOf p ≡ header.Bad → ⊥
 
--- the logs of a block's words can be read: no length is above N, and every entry lies in the arena
+-- the logs of a block's words can be read: every entry lies in the arena
 pub record Readable (n : ℕ) (w : List ℕ) : Type 0 where
-  pub short : (i : ℕ) → i < n → lengthOf n w i ≤ n
   pub inside : (i q : ℕ) → i < n → q < lengthOf n w i → placeOf n w i q < arena n
 
 -- a pool of words p, whose header gives the sizes d

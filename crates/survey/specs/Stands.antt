@@ -1,7 +1,7 @@
 -- The blocks on which live handles stand, marked in one pass over the slots: 0 where one stands.
 -- Rests on Reads.
 use Prim.Native.Nat.{_+_, _<_, _≤_, ℕ}
-use mathlib.Core.Bool.{Bool, _||_, false, not, true}
+use mathlib.Core.Bool.{Bool, _||_, false, not, or-false, or-true, true}
 use mathlib.Core.List.{List}
 use mathlib.Core.Path.{_∙_, _≡_, ap, refl, sym}
 use native.Mathlib.Numerals.{add-one}
@@ -18,16 +18,8 @@ use Rattle.rulebook.specs.Sizes.{mostBlocks}
 use Rattle.rulebook.specs.State.{isLive, stood}
 use Rattle.rulebook.specs.Tests.{by-test}
 use Rattle.survey.specs.Decide.{someTo}
-use Rattle.survey.specs.Reads.{stands-live, stands-not, standsOn, stood-is}
+use Rattle.survey.specs.Searches.{stands-live, stands-not, standsOn, stood-is}
 use Rattle.survey.specs.Rules.{shown}
-
-or-false : (a : Bool) → (a || false) ≡ a
-or-false true = refl
-or-false false = refl
-
-or-true : (a : Bool) → (a || true) ≡ true
-or-true true = refl
-or-true false = refl
 
 -- block k is marked
 abbrev pub marked : List ℕ → ℕ → Bool

@@ -1,29 +1,25 @@
 -- Rule 3's walk over blocks, cells and entries: what holds at each of its loops, and what each way on or out of them owes.
--- Rests on Logs, Reads and the block's marks.
+-- Rests on Logs and the block's marks.
 use Prim.Native.Nat.{_+_, _-_, _<_, _≤_, ℕ}
 use mathlib.Core.Bool.{Bool, false, not, true, true≢false}
 use mathlib.Core.List.{List}
 use mathlib.Core.Logic.{inl, ⊎-elim}
 use mathlib.Core.Path.{_∙_, _≡_, ap, refl, subst, sym}
 use native.Mathlib.Omega.{arith}
-use lib.Dec.{eqb, leb, ltb}
+use lib.Dec.{eqb, ltb}
 use lib.ListN.{getD, getD-replicate, length, length-replicate, replicate, set}
-use borrow.Author.Tests.{eqb-false, eqb-true, le-leb, le-ltb, leb-false, leb-true, lt-leb, lt-ltb, ltb-false, ltb-true, not-false, not-true}
+use borrow.Author.Tests.{eqb-false, eqb-true, le-ltb, lt-ltb, ltb-false, ltb-true, not-false, not-true}
 use Rattle.rulebook.specs.declared.Sizes.{Sizes}
-use Rattle.block.specs.Layout.{arena, hasCell, lengthOf, placeOf, versionOf}
+use Rattle.block.specs.Layout.{arena, lengthOf, placeOf, versionOf}
 use Rattle.block.specs.Marks.{Walked, walk-row, walk-start, walk-step}
-use Rattle.block.specs.Ways.{block-cell, sized-block}
-use Rattle.block.specs.Words.{entryIn, entryUnder, lengthIn, versionIn}
-use Rattle.layout.specs.Keeps.{block-sized}
+use Rattle.block.specs.Raw.{outside, stampIn}
 use Rattle.layout.specs.Places.{Spans, blockPart}
 use Rattle.rulebook.specs.State.{stood}
 use Rattle.rulebook.specs.Tests.{by-test}
 use Rattle.survey.specs.Broken.{rule3}
 use Rattle.survey.specs.Decided.{decides-3}
-use Rattle.survey.specs.Logs.{BlockRule, EntryRule, LogRule, blocks-three, climb, stampOf, stood-version, three-blocks}
-use Rattle.survey.specs.Reads.{lengthShown, outside, stampShown, versionShown}
+use Rattle.survey.specs.Logs.{BlockRule, EntryRule, LogRule, blocks-three, climb, rule-short, stampOf, stood-version, three-blocks}
 use Rattle.survey.specs.Rules.{Rule2, Rule3, shown}
-use Rattle.block.specs.declared.Looked.the-variants as looked
 
 -- how many marks there are: one for each version below the greatest V
 abbrev pub mostVersions : ℕ
@@ -56,6 +52,7 @@ module _ (d : Sizes) (p : List ℕ) where
     pub below : k < d .b
     pub stands : stood (shown d p) k ≡ true
     pub version : v ≡ versionOf (wordsOf k)
+    pub most : v ≤ d .n + 1
     pub small : v ≤ mostVersions
 
   -- the logs before log i keep the rule
@@ -72,7 +69,7 @@ module _ (d : Sizes) (p : List ℕ) where
     pub on : On k v
     pub cell : i < d .n
     pub is : m ≡ lengthAt k i
-    pub short : m ≤ d .n
+    pub short : m ≤ v
     pub most : j ≤ m
     pub logs : (x : ℕ) → x < i → LogRule (d .n) (wordsOf k) x
     pub entries : (x : ℕ) → x < j → EntryRule (d .n) (wordsOf k) i x
@@ -109,19 +106,14 @@ module _ (d : Sizes) (p : List ℕ) where
 
   -- ---- a block
 
-  version-is : Spans d p → (k : ℕ) → k < d .b → (v : ℕ) → v ≡ versionShown (versionIn (d .n) (wordsOf k)) → v ≡ versionOf (wordsOf k)
-  unfolding versionIn
-  version-is sp k l v e = e ∙ rw (sized-block (d .n) (wordsOf k) (block-sized sp k l))
-
   pub logs-start : (k v : ℕ) (kept b : Bool) → BlocksAt k kept → Spans d p → Rule2 d p → k < d .b → b ≡ stood (shown d p) k → not b ≡ false
-      → v ≡ versionShown (versionIn (d .n) (wordsOf k)) → LogsAt k v (replicate mostVersions 1) 0 kept
+      → v ≡ versionOf (wordsOf k) → LogsAt k v (replicate mostVersions 1) 0 kept
   logs-start k v kept b s sp two l e q f =
       let st = sym e ∙ not-false b q in
-      let is = version-is sp k l v f in
       let few = stood-version d p two k l st in
       record {
         yes = s .yes;
-        on = record { spans = sp; two = two; below = l; stands = st; version = is; small = omega (arith, sp .cells) };
+        on = record { spans = sp; two = two; below = l; stands = st; version = f; most = omega arith; small = omega (arith, sp .cells) };
         most = omega arith;
         logs = λ x m. absurd (omega arith);
         met =
@@ -148,34 +140,22 @@ module _ (d : Sizes) (p : List ℕ) where
               apart = λ a c j t la lc lj lt e. s .met .once a j c t (lj, inl (omega arith)) (lt, inl (omega arith)) e .0;
             }
 
-    module _ (m : ℕ) (l : i < d .n) (e : m ≡ lengthShown (lengthIn (d .n) (wordsOf k) i)) where
-      has : hasCell (d .n) (wordsOf k) i ≡ true
-      has = block-cell (d .n) (wordsOf k) i (block-sized (s .on .spans) k (s .on .below)) l
+    -- more entries than versions; what shows m comes first, for the search
+    pub logs-broken : (m : ℕ) → v < m → i < d .n → m ≡ lengthAt k i → false ≡ rule3 d p
+    logs-broken m q l e =
+        three-not (λ h.
+        let r = rule-short (d .n) (wordsOf k) (three-blocks d p (s .on .two) h k (s .on .below) (s .on .stands)) i l in
+        let x = s .on .version in
+        omega arith)
 
-      length-is : lengthAt k i ≤ d .n → m ≡ lengthAt k i
-      unfolding lengthIn
-      length-is q = e ∙ rw (has, le-leb (lengthAt k i) (d .n) q)
-
-      length-not : d .n < lengthAt k i → m ≡ outside
-      unfolding lengthIn
-      length-not q = e ∙ rw (has, lt-leb (lengthAt k i) (d .n) q)
-
-      pub logs-broken : d .n < m → false ≡ rule3 d p
-      logs-broken q =
-          three-not (λ h.
-          let r = three-blocks d p (s .on .two) h k (s .on .below) (s .on .stands) .logs i l .short in
-          omega (arith, length-is r))
-
-      pub entries-start : m ≤ d .n → EntriesAt k v i m marks 0 0 kept
+    module _ (m : ℕ) (l : i < d .n) (e : m ≡ lengthAt k i) where
+      pub entries-start : m ≤ v → EntriesAt k v i m marks 0 0 kept
       entries-start q =
           record {
             yes = s .yes;
             on = s .on;
             cell = l;
-            is =
-                by-test (leb (lengthAt k i) (d .n))
-                (λ f. length-is (leb-true (lengthAt k i) (d .n) f))
-                (λ f. let z = length-not (leb-false (lengthAt k i) (d .n) f) in let y = s .on .spans .cells in absurd (omega arith));
+            is = e;
             short = q;
             most = omega arith;
             logs = s .logs;
@@ -202,26 +182,22 @@ module _ (d : Sizes) (p : List ℕ) where
         }
       where
         here : LogRule (d .n) (wordsOf k) i
-        here = record { short = (let e = s .is in let q = s .short in omega arith); entries = λ x o. s .entries x (let e = s .is in omega arith) }
+        here = record { entries = λ x o. s .entries x (let e = s .is in omega arith) }
 
-    module _ (at : ℕ) (l : j < m) (e : at ≡ stampShown (entryIn (d .n) (wordsOf k) i j)) where
+    pub stamp-within : j < m → j ≤ d .n
+    stamp-within l = let q = s .short in let z = s .on .most in omega arith
+
+    module _ (at : ℕ) (l : j < m) (e : at ≡ stampIn (d .n) (wordsOf k) i j) where
       in-log : j < lengthAt k i
       in-log = let q = s .is in omega arith
 
-      short : lengthAt k i ≤ d .n
-      short = let q = s .is in let z = s .short in omega arith
-
-      length-reads : lengthIn (d .n) (wordsOf k) i ≡ looked.Word (lengthAt k i)
-      unfolding lengthIn
-      length-reads = rw (block-cell (d .n) (wordsOf k) i (block-sized (s .on .spans) k (s .on .below)) (s .cell), le-leb (lengthAt k i) (d .n) short)
-
       stamp-is : placeOf (d .n) (wordsOf k) i j < arena (d .n) → at ≡ stampAt k i j
-      unfolding entryIn entryUnder
-      stamp-is q = e ∙ rw (length-reads, lt-ltb j (lengthAt k i) in-log, lt-ltb (placeOf (d .n) (wordsOf k) i j) (arena (d .n)) q)
+      unfolding stampIn
+      stamp-is q = e ∙ rw (lt-ltb (placeOf (d .n) (wordsOf k) i j) (arena (d .n)) q)
 
       stamp-not : arena (d .n) ≤ placeOf (d .n) (wordsOf k) i j → at ≡ outside
-      unfolding entryIn entryUnder
-      stamp-not q = e ∙ rw (length-reads, lt-ltb j (lengthAt k i) in-log, le-ltb (placeOf (d .n) (wordsOf k) i j) (arena (d .n)) q)
+      unfolding stampIn
+      stamp-not q = e ∙ rw (le-ltb (placeOf (d .n) (wordsOf k) i j) (arena (d .n)) q)
 
       -- what rule 3 says of this entry
       said : Rule3 d p → EntryRule (d .n) (wordsOf k) i j
@@ -300,4 +276,4 @@ module _ (d : Sizes) (p : List ℕ) where
                     rise = λ g. (let z = s .last g in let y = stamp-is inside in omega arith);
                   }
 
-pub ruleset walks = (blocks-start, blocks-skip, blocks-end, logs-start, logs-end, logs-broken, entries-start, entries-end, broken-below, stamp-small, stamp-marked, stamp-next, broken-rise, broken-twice, entries-step)
+pub ruleset walks = (blocks-start, blocks-skip, blocks-end, logs-start, logs-end, logs-broken, entries-start, entries-end, stamp-within, broken-below, stamp-small, stamp-marked, stamp-next, broken-rise, broken-twice, entries-step)

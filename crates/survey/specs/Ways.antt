@@ -11,20 +11,19 @@ use borrow.Author.Tests.{eq-eqb, le-leb, le-ltb, lt-leb, lt-ltb, ne-eqb, not-fal
 use Rattle.rulebook.specs.declared.Sizes.{Sizes}
 use Rattle.rulebook.specs.declared.Slot.{Slot}
 use Rattle.rulebook.specs.declared.Task.{Task}
+use Rattle.block.specs.Layout.{versionOf}
 use Rattle.block.specs.Reads.{version-at}
-use Rattle.block.specs.Ways.{sized-block}
-use Rattle.layout.specs.Keeps.{block-sized}
-use Rattle.block.specs.Words.{versionIn}
-use Rattle.layout.specs.Places.{Spans, blockPart, slotPart, taskPart}
+use Rattle.layout.specs.Places.{blockPart, slotPart, taskPart}
 use Rattle.layout.specs.Rows.{slotRead, taskRead}
 use Rattle.layout.specs.View.{view-block-at, view-slot-at, view-task-at}
 use Rattle.rulebook.specs.State.{Block, blockAt, fills, isLive, names, reserves}
 use Rattle.rulebook.specs.Tests.{by-test}
 use Rattle.theorems.specs.Terms.{allTo}
-use Rattle.survey.specs.Broken.{freshApart, freshAt, isReserved, namedAt, offTarget, ownerAt, ownsAt, rule2, rule2At, rule6, rule6At, standsAs, targetApart, targetAt}
+use Rattle.survey.specs.Broken.{freshApart, freshAt, namedAt, offTarget, ownerAt, ownsAt, rule2, rule2At, rule6, rule6At, targetApart, targetAt}
+use Rattle.survey.specs.Holds.{isReserved, standsAs}
 use Rattle.survey.specs.Decide.{all-at, someTo}
 use Rattle.survey.specs.Decided.{slot-beyond}
-use Rattle.survey.specs.Reads.{some-end, some-on, some-start, some-stop, versionShown}
+use Rattle.survey.specs.Searches.{some-end, some-on, some-start, some-stop}
 use Rattle.survey.specs.Rules.{shown, slot, task}
 use Rattle.rulebook.specs.declared.Status.the-variants as status
 
@@ -63,11 +62,8 @@ module _ (d : Sizes) (p : List ℕ) where
 
   -- ---- rule 2
 
-  pub version-here : Spans d p → (k : ℕ) → k < d .b → (v : ℕ) → v ≡ versionShown (versionIn (d .n) (blockPart p d k)) → blockAt (shown d p) k .version ≡ v
-  unfolding versionIn
-  version-here sp k l v e =
-      ap (λ (b : Block). b .version) (view-block-at d p k l) ∙ version-at (d .n) (blockPart p d k)
-      ∙ sym (e ∙ rw (sized-block (d .n) (blockPart p d k) (block-sized sp k l)))
+  pub version-here : (k : ℕ) → k < d .b → (v : ℕ) → v ≡ versionOf (blockPart p d k) → blockAt (shown d p) k .version ≡ v
+  version-here k l v e = ap (λ (b : Block). b .version) (view-block-at d p k l) ∙ version-at (d .n) (blockPart p d k) ∙ sym e
 
   module _ (j : ℕ) (x : Slot) (e : x ≡ slotRead (slotPart p j)) (l : j < d .h) (b : Bool) (f : b ≡ isLive (x .status)) where
     pub two-dead : not b ≡ true → true ≡ rule2At d p j
@@ -79,19 +75,19 @@ module _ (d : Sizes) (p : List ℕ) where
       unfolding rule2At
       two-far o = rw (slot-as j x e l, ← f, not-false b q, le-ltb (x .block) (d .b) o)
 
-      module _ (o : x .block < d .b) (sp : Spans d p) (v : ℕ) (g : v ≡ versionShown (versionIn (d .n) (blockPart p d (x .block)))) where
+      module _ (o : x .block < d .b) (v : ℕ) (g : v ≡ versionOf (blockPart p d (x .block))) where
         pub two-low : v < x .number → false ≡ rule2At d p j
         unfolding rule2At
-        two-low i = rw (slot-as j x e l, ← f, not-false b q, lt-ltb (x .block) (d .b) o, version-here sp (x .block) o v g, lt-leb (x .number) v i)
+        two-low i = rw (slot-as j x e l, ← f, not-false b q, lt-ltb (x .block) (d .b) o, version-here (x .block) o v g, lt-leb (x .number) v i)
 
         module _ (i : x .number ≤ v) where
           pub two-high : d .n < x .number → false ≡ rule2At d p j
           unfolding rule2At
-          two-high m = rw (slot-as j x e l, ← f, not-false b q, lt-ltb (x .block) (d .b) o, version-here sp (x .block) o v g, le-leb (x .number) v i, lt-leb (x .number) (d .n) m)
+          two-high m = rw (slot-as j x e l, ← f, not-false b q, lt-ltb (x .block) (d .b) o, version-here (x .block) o v g, le-leb (x .number) v i, lt-leb (x .number) (d .n) m)
 
           pub two-last : x .number ≤ d .n → leb v (d .n + 1) ≡ rule2At d p j
           unfolding rule2At
-          two-last m = rw (slot-as j x e l, ← f, not-false b q, lt-ltb (x .block) (d .b) o, version-here sp (x .block) o v g, le-leb (x .number) v i, le-leb (x .number) (d .n) m)
+          two-last m = rw (slot-as j x e l, ← f, not-false b q, lt-ltb (x .block) (d .b) o, version-here (x .block) o v g, le-leb (x .number) v i, le-leb (x .number) (d .n) m)
 
 pub ruleset handles = (two-dead, two-far, two-low, two-high, two-last)
 

@@ -58,7 +58,6 @@ module _ {d : Sizes} {p : List ℕ} (s : Sound d p) where
   laid-readable : (n : ℕ) (w : List ℕ) → Laid n w → Readable n w
   laid-readable n w l =
       record {
-        short = l .sound .short;
         inside = λ i q a b.
             let m = l .sound .short i a in
             let g = space-least (lengthOf n w i) (omega (arith, l .sized .few)) in

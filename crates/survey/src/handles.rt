@@ -1,5 +1,4 @@
 // Rule 2: the live handles.
-use super::reads::version_of;
 use acts::tasks::is_live;
 use rulebook::Sizes;
 ghost use mathlib.Core.Path.{_≡_};
@@ -20,7 +19,7 @@ fn stands_well(words: &[u32], d: Sizes, j: u32) -> bool
     if d.b <= x.block {
         return false;
     }
-    let v = version_of(words, d, x.block);
+    let v = pool::raw_version(words, d, x.block);
     if v < x.number {
         return false;
     }

@@ -13,7 +13,8 @@ ghost use Rattle.rulebook.specs.State.{reserves};
 ghost use Rattle.theorems.specs.Terms.{allTo};
 ghost use Rattle.layout.specs.Places.{Spans};
 ghost use Rattle.survey.specs.Decide.{someTo};
-ghost use Rattle.survey.specs.Broken.{isReserved, standsAs, namedAt, freshApart, freshAt, targetApart, offTarget, targetAt, rule6At, ownsAt, ownerAt, rule6};
+ghost use Rattle.survey.specs.Broken.{namedAt, freshApart, freshAt, targetApart, offTarget, targetAt, rule6At, ownsAt, ownerAt, rule6};
+ghost use Rattle.survey.specs.Holds.{isReserved, standsAs};
 
 pub fn is_reserved(x: Status) -> bool
     ensures { λ r. ⌜ r ≡ isReserved x ⌝ }

@@ -2,7 +2,6 @@
 pub mod apart;
 pub mod handles;
 pub mod holds;
-pub mod reads;
 pub mod stands;
 pub mod tally;
 pub mod walk;

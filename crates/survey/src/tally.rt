@@ -1,6 +1,4 @@
 // Rule 4: how many entries a block has.
-use super::reads::length_of;
-use super::reads::version_of;
 use super::stands::stood_on;
 use rulebook::Sizes;
 ghost use mathlib.Core.Path.{_≡_};
@@ -21,7 +19,7 @@ pub fn entries_of(words: &[u32], d: Sizes, k: u32) -> u32
     let mut total: u32 = 0;
     let mut i: u32 = 0;
     while i < d.n {
-        let m = length_of(words, d, k, i);
+        let m = pool::raw_length(words, d, k, i);
         total += m;
         i += 1;
     }
@@ -36,7 +34,7 @@ fn few_entries(words: &[u32], d: Sizes, stood: &[u32], k: u32) -> bool
         return true;
     }
     let total = entries_of(words, d, k);
-    let v = version_of(words, d, k);
+    let v = pool::raw_version(words, d, k);
     if v < total {
         return false;
     }

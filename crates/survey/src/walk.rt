@@ -1,7 +1,4 @@
 // Rule 3: the walk over blocks, cells and log entries.
-use super::reads::length_of;
-use super::reads::stamp_of;
-use super::reads::version_of;
 use super::stands::stood_on;
 use rulebook::Sizes;
 ghost use mathlib.Core.Path.{_≡_};
@@ -23,17 +20,17 @@ pub fn logs_hold(words: &[u32], d: Sizes, stood: &[u32]) -> bool
         if !stood_on(stood, k) {
             continue;
         }
-        let v = version_of(words, d, k);
+        let v = pool::raw_version(words, d, k);
         let mut marks = [1u32; VERSIONS];
         for i in 0..d.n {
-            let m = length_of(words, d, k, i);
-            if d.n < m {
+            let m = pool::raw_length(words, d, k, i);
+            if v < m {
                 kept = false;
                 break 'walk;
             }
             let mut least: u32 = 0;
             for j in 0..m {
-                let at = stamp_of(words, d, k, i, j);
+                let at = pool::raw_stamp(words, d, k, i, j);
                 if v <= at {
                     kept = false;
                     break 'walk;

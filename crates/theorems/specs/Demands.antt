@@ -7,7 +7,6 @@ use mathlib.Core.Path.{_≡_}
 use Rattle.rulebook.specs.Answers.{operation, refusal, words}
 use Rattle.rulebook.specs.History.{Ended, IsOpened, Past, Value, past, run, setsBound, tableOf, workCode}
 use Rattle.rulebook.specs.Machine.{Call, call}
-use Rattle.rulebook.specs.Starts.{opening}
 use Rattle.rulebook.specs.State.{State, busy, liveHandle, taskAt}
 use Rattle.rulebook.specs.Steps.{step}
 use Rattle.theorems.specs.Notes.Calls.{notes-past}

@@ -10,7 +10,7 @@ use Rattle.rulebook.specs.declared.Entry.{Entry}
 use Rattle.rulebook.specs.declared.Stage.{Stage}
 use Rattle.rulebook.specs.declared.Stage.the-variants.{Append, Copying, Exchange, FillCopy, FillNew, Getting, Idle, Paging, Put, Read, TakeCopy, TakeNew, Write}
 use Rattle.rulebook.specs.declared.Status.the-variants.{Free, Live, Reserved}
-use Rattle.rulebook.specs.Answers.{stageCode, words}
+use Rattle.rulebook.specs.Answers.{stageCode}
 use Rattle.rulebook.specs.Array.{Table, getTable}
 use Rattle.rulebook.specs.History.{Numbered, Past, Value, Work, making, next, one, paging, reading, resting, setting, tableOf}
 use Rattle.rulebook.specs.Machine.{Call, Get, LookCell, LookEntry, LookLog, LookTask, LookVersion, New, Open, Page, Release, Report, Set, Step}

@@ -1,5 +1,5 @@
 -- The step of each code: for the function that goes by the code, one law for each arm.
--- Rests on Seen and on pool's codes.
+-- Rests on Seen and on layout's codes.
 use Prim.Native.Nat.{ℕ, _≤_, _<_}
 use mathlib.Core.Bool.{false, true}
 use mathlib.Core.List.{List}

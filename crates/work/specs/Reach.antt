@@ -1,4 +1,4 @@
--- Whatever a pool holds, what a plan names is there: the block, the slot and the task that it changes.
+-- Whatever a pool holds, what a plan names is there: the slot and the task that it changes.
 -- Rests on the ranges of the rows that were read.
 use Prim.Native.Nat.{_+_, _<_, suc, zero, ℕ}
 use mathlib.Core.Bool.{Bool, _&&_, _||_, false, not, true, true≢false}

@@ -3,7 +3,7 @@
 use Prim.Native.Nat.{_<_, _≤_, ℕ}
 use mathlib.Core.List.{List}
 use mathlib.Core.Path.{_∙_, _≡_, ap, refl, sym}
-use lib.Dec.{eqb, leb, ltb}
+use lib.Dec.{eqb, ltb}
 use lib.ListN.{getD}
 use borrow.Author.Tests.{le-leb, lt-leb}
 use Rattle.acts.specs.declared.Act.{Act}
@@ -17,7 +17,7 @@ use Rattle.rulebook.specs.declared.Reading.{Reading}
 use Rattle.rulebook.specs.declared.Sizes.{Sizes}
 use Rattle.rulebook.specs.declared.Stage.{Stage}
 use Rattle.rulebook.specs.declared.Task.{Task}
-use Rattle.acts.specs.Plans.{after, freeIn, goes, refused, ticked}
+use Rattle.acts.specs.Plans.{after, freeIn, goes, ticked}
 use Rattle.acts.specs.StepPlans.{appendsEntry, copyGoes, exchangesOn, fillsCopy, fillsNew, finishes, getGoes, givesUp, goesOn, pageGoes, pageSettles, planAt, planRow, planStep, puts, readIn, readsOld, takes, writesNew}
 use Rattle.acts.specs.Said.{saidOf}
 use Rattle.acts.specs.Sight.{Sight}

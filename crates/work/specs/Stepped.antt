@@ -21,7 +21,7 @@ use Rattle.acts.specs.StepPlans.{afterBounds, afterExchange, afterFill, finishe
 use Rattle.acts.specs.Said.{saidOf, toldIn}
 use Rattle.layout.specs.Acts.{applied-answers, applied-done, applied-not, touched-keeps}
 use Rattle.layout.specs.Does.{untouched}
-use Rattle.layout.specs.Keeps.{keeps-spans, none}
+use Rattle.layout.specs.Keeps.{keeps-spans}
 use Rattle.layout.specs.Places.{Spans, taskPart}
 use Rattle.layout.specs.Pool.{actedIn, appliedIn, putSlot, putTask, seatedIn, sight, slotSeen, touchNear, touchedIn, touchedNear, turnedIn}
 use Rattle.layout.specs.Rows.{taskWith}

@@ -15,7 +15,6 @@ use rulebook::Reading;
 use rulebook::Sizes;
 use rulebook::Stage;
 ghost use mathlib.Core.Path.{_≡_};
-ghost use Prim.Native.Nat.{_<_};
 ghost use Rattle.work.specs.Stepped.{Fresh, Held, copiedOn, exchangedOn, firstSet, stepAt, writeMade};
 
 // A first set with L < N goes on in place; every other set copies.

@@ -5,7 +5,7 @@ use Rattle.promises.specs.Proofs.Checked.{check-passes, check-sound, che
 use Rattle.promises.specs.Proofs.Numbers.{open-due, refusal-due, ten-harmless, undescribed}
 use Rattle.promises.specs.Proofs.One.{answer-length, answer-rest, pool-length, pool-rest, refusal-keeps, refusal-zeros, short-slice}
 use Rattle.promises.specs.Proofs.Three.{busy-below, priced, sets-bound, steps-counted, steps-exact}
-use Rattle.promises.specs.Proofs.Two.{machine-answers, machine-history, machine-state, numbers-once, pages-join, pages-join-any, reads, reads-in-order, stays-sound, tables}
+use Rattle.promises.specs.Proofs.Two.{machine-answers, machine-call, machine-history, machine-state, numbers-once, pages-join, pages-join-any, reads, reads-in-order, stays-sound, tables}
 use Rattle.promises.specs.Said.{spoken}
 
 pub promised : Promised spoken
@@ -23,6 +23,7 @@ promised = record {
   ten-harmless = ten-harmless;
   check-tells = check-tells;
   check-sound = check-sound;
+  machine-call = machine-call;
   machine-state = machine-state;
   machine-answers = machine-answers;
   machine-history = machine-history;

@@ -1,16 +1,14 @@
 -- A list of calls as C makes them is bridge's list of those that the machine has, with a slice that is not short; what a caller notes of them is the machine's history.
 -- Rests on Calls and on the bridge.
 use Prim.Native.Nat.{ℕ}
-use mathlib.Core.Bool.{false, true}
 use mathlib.Core.List.{List, [], _∷_}
 use mathlib.Core.Path.{_∙_, _≡_, ap, ap₂, refl, sym}
-use lib.ListN.{take}
 use Rattle.bridge.specs.Asked.{Asked, Bridged, Get, LookCell, LookEntry, LookLog, LookTask, LookVersion, New, Open, Page, Release, Report, Set, Step, asked, askedAll, callOf, callsOf, sizesAfter}
 use Rattle.bridge.specs.Bridge.{bridge}
 use Rattle.bridge.specs.Sound.{Sound}
 use Rattle.layout.specs.declared.Header.{Header}
 use Rattle.layout.specs.Pool.{viewOf}
-use Rattle.rulebook.specs.Answers.{refusal, word}
+use Rattle.rulebook.specs.Answers.{refusal}
 use Rattle.rulebook.specs.declared.Reply.{Reply}
 use Rattle.rulebook.specs.declared.Sizes.{Sizes}
 use Rattle.rulebook.specs.History.{Past, Work, accepted, making, next, noted, onward, paging, reading, resting, setting, stepped}
@@ -20,7 +18,7 @@ use Rattle.rulebook.specs.State.{State, listTo}
 use Rattle.rulebook.specs.Tests.{by-test}
 use Rattle.theorems.specs.Proofs.Follows.{next-store}
 use Rattle.promises.specs.Proofs.Calls.{spoken-case, spoken-long, spoken-short, telling}
-use Rattle.promises.specs.Said.{Ask, Check, Outcome, Request, Spoken, amounts, aside, callsIn, notedAll, notedBy, notes, poolAfter, poolAll, short, spoken, stateIn, stateUnder, steppedBy, tellings, toldAll}
+use Rattle.promises.specs.Said.{Ask, Check, Outcome, Request, Spoken, amounts, aside, callsIn, notedAll, notedBy, notes, poolAfter, poolAll, short, spoken, stateIn, stateUnder, steppedBy, tellings, tells, told, toldAll}
 
 -- ---- the list without the checks and the calls that are nothing
 
@@ -71,15 +69,12 @@ unfolding toldAll askedAll heeded tellings listTo
 told-all [] p = refl
 told-all (c ∷ cs) p = at (c .call) (c .slice) (told-all cs)
   where
-    told : Reply → ℕ × List ℕ
-    told r = (refusal r, listTo 16 (λ (j : ℕ). word j r))
-
-    at : (x : Request) (a : List ℕ) → ((q : List ℕ) → toldAll spoken cs q ≡ tellings (askedAll (heeded cs) q .1)) → (let z = spoken x p a in if aside x a then toldAll spoken cs (z .0 .0) else (z .1, take 16 (z .0 .1)) ∷ toldAll spoken cs (z .0 .0)) ≡ tellings (askedAll (heed x a (heeded cs)) p .1)
+    at : (x : Request) (a : List ℕ) → ((q : List ℕ) → toldAll spoken cs q ≡ tellings (askedAll (heeded cs) q .1)) → (let z = spoken x p a in if aside x a then toldAll spoken cs (z .0 .0) else told z ∷ toldAll spoken cs (z .0 .0)) ≡ tellings (askedAll (heed x a (heeded cs)) p .1)
     at (Ask x) a ih =
-        let step : Outcome → List (ℕ × List ℕ) = λ z. if short a then toldAll spoken cs (z .0 .0) else (z .1, take 16 (z .0 .1)) ∷ toldAll spoken cs (z .0 .0) in
+        let step : Outcome → List (ℕ × List ℕ) = λ z. if short a then toldAll spoken cs (z .0 .0) else told z ∷ toldAll spoken cs (z .0 .0) in
         by-test (short a)
         (λ e. ap step (spoken-short (Ask x) p a e) ∙ rw e (ih p))
-        (λ e. ap step (spoken-long (Ask x) p a e) ∙ rw e (ap (λ (l : List (ℕ × List ℕ)). told (asked x p .1) ∷ l) (ih (asked x p .0))))
+        (λ e. ap step (spoken-long (Ask x) p a e) ∙ rw e (ap (λ (l : List (ℕ × List ℕ)). tells (asked x p .1) ∷ l) (ih (asked x p .0))))
     at Check a ih = ap (toldAll spoken cs) (check-leaves p a) ∙ ih p
 
 -- ---- what is noted of one call

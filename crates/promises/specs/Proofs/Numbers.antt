@@ -1,12 +1,13 @@
--- Demand 1: which number is returned: on any pool before the store is looked at, on a pool that passes the check by document 01's table; and what 10 leaves.
+-- Demand 1: which number is returned: on any pool before the store is looked at, on a pool that passes the check by document 01's table; and what 10 leaves and tells.
 -- Rests on Calls, the bridge and the machine's theorems.
-use Prim.Native.Nat.{ℕ}
+use Prim.Native.Nat.{_+_, _≤_, ℕ}
 use mathlib.Core.Bool.{Bool, false, true≢false}
 use mathlib.Core.List.{List, [], _∷_}
 use mathlib.Core.Path.{_∙_, _≡_, ap, refl, subst⁻¹, sym}
 use native.Mathlib.Omega.{arith}
-use lib.Dec.{eqb}
+use lib.Dec.{eqb, leb}
 use lib.ListN.{length, replicate, take}
+use lib.Seq.{getD-take}
 use borrow.Author.Tests.{eqb-false, le-ltb}
 use Rattle.acts.specs.declared.Act.{Act}
 use Rattle.acts.specs.Sight.{Sight}
@@ -20,16 +21,22 @@ use Rattle.layout.specs.declared.Header.the-variants as header
 use Rattle.layout.specs.Header.{headerOf}
 use Rattle.layout.specs.Opened.{open-not, open-reply}
 use Rattle.layout.specs.Pool.{openIn, viewOf}
-use Rattle.rulebook.specs.Answers.{refusal}
+use Rattle.rulebook.specs.Answers.{refusal, word}
+use Rattle.rulebook.specs.declared.Progress.{Progress}
+use Rattle.rulebook.specs.declared.Progress.the-variants as progress
+use Rattle.rulebook.specs.declared.Reading.the-variants as reading
 use Rattle.rulebook.specs.declared.Reply.{Reply}
 use Rattle.rulebook.specs.declared.Sizes.{Sizes}
+use Rattle.rulebook.specs.declared.Stage.{Stage}
+use Rattle.rulebook.specs.declared.Stage.the-variants as stage
 use Rattle.rulebook.specs.declared.Status.the-variants.{Live}
+use Rattle.rulebook.specs.declared.Task.{Task}
 use Rattle.rulebook.specs.Machine as machine
 use Rattle.rulebook.specs.Machine.{call}
 use Rattle.rulebook.specs.Sizes.{if_then_else_, opens, room}
-use Rattle.rulebook.specs.State.{State, listTo, slotAt}
-use Rattle.rulebook.specs.Steps.{step}
-use Rattle.rulebook.specs.Tests.{by-test}
+use Rattle.rulebook.specs.State.{Result, State, freeBlock, listTo, slotAt, taskAt}
+use Rattle.rulebook.specs.Steps.{counted, exchanged, finished, gotCopy, gotGet, gotPage, hereOf, noRoom, step, stepAt, taken}
+use Rattle.rulebook.specs.Tests.{by-test, if-case}
 use Rattle.rules.specs.Blind.{erase-call}
 use Rattle.rules.specs.Erase.{erase, erase-shape}
 use Rattle.rules.specs.Kept.{rules-inv}
@@ -39,9 +46,9 @@ use Rattle.theorems.specs.Invariant.Steps.{inv-step}
 use Rattle.theorems.specs.Proofs.Causes.{fits-call}
 use Rattle.theorems.specs.Proofs.Ten as ten
 use Rattle.theorems.specs.Terms.{Every, Harmless, causes, due, more, none}
-use Rattle.promises.specs.Promises.{OpenDue, RefusalDue, TenHarmless, Undescribed}
+use Rattle.promises.specs.Promises.{MachineCall, OpenDue, RefusalDue, TenHarmless, Undescribed}
 use Rattle.promises.specs.Proofs.Calls.{spoken-case, spoken-long, telling}
-use Rattle.promises.specs.Said.{Ask, Check, Outcome, isOpen, numberOf, poolAfter, spoken}
+use Rattle.promises.specs.Said.{Ask, Build, Check, Outcome, answerAfter, isOpen, numberOf, poolAfter, spoken, stateIn, wordOf}
 
 -- ---- before the store is looked at
 
@@ -146,3 +153,53 @@ ten-harmless Check p a d S =
     spoken-case Check p a (λ (z : Outcome). z .1 ≡ 10 → (t : ℕ) × (Check ≡ Ask (Step t)) × Harmless (viewOf d p) t (viewOf d (z .0 .0)))
     (λ _ e. absurd (let q : _≡_ {A = ℕ} 15 10 = e in omega arith))
     (λ _ e. absurd (let q : _≡_ {A = ℕ} 0 10 = e in omega arith))
+
+-- ---- the step count is returned with 10: it follows from `MachineCall` alone, for any build
+
+module _ (s : State) (t : ℕ) where
+  -- where the answer is 10, its second word is the task's steps
+  abbrev Counts : Task → Result → Type 0
+  Counts k r = refusal (r .1) ≡ 10 → word 1 (r .1) ≡ k .steps
+
+  not-ten : {Q : Type 0} → _≡_ {A = ℕ} 0 10 → Q
+  not-ten e = absurd (omega arith)
+
+  taken-counts : (k : Task) (g : Stage) → Counts k (taken s t k g)
+  unfolding taken noRoom
+  taken-counts k g = if-case (Counts k) (leb (s .sizes .b) (freeBlock s)) (λ _ _. refl) (λ _. not-ten)
+
+  got-counts : (q : Progress) (k : Task) → Counts k (gotGet q s t k) × Counts k (gotPage q s t k) × Counts k (gotCopy q s t k)
+  unfolding gotGet gotPage gotCopy
+  got-counts (progress.Going r w) k = (not-ten, not-ten, not-ten)
+  got-counts (progress.Settled w) k = (not-ten, if-case (Counts k) (eqb (w .cell + 1) (k .until)) (λ _. not-ten) (λ _. not-ten), not-ten)
+
+  at-counts : (g : Stage) (k : Task) → Counts k (stepAt g s t k)
+  unfolding stepAt finished exchanged
+  at-counts stage.Idle k = λ e. absurd (let z : _≡_ {A = ℕ} 6 10 = e in omega arith)
+  at-counts stage.TakeNew k = taken-counts k stage.FillNew
+  at-counts stage.FillNew k = if-case (Counts k) (eqb (k .hand .cell + 1) (s .sizes .n)) (λ _. not-ten) (λ _. not-ten)
+  at-counts (stage.Getting r) k = got-counts _ k .0
+  at-counts stage.Exchange k = if-case (Counts k) (eqb (hereOf s k .version) (k .number)) (λ _. not-ten) (λ _. not-ten)
+  at-counts stage.Read k = not-ten
+  at-counts stage.Append k = not-ten
+  at-counts stage.Write k = not-ten
+  at-counts stage.TakeCopy k = taken-counts k (stage.Copying reading.Guess)
+  at-counts (stage.Copying r) k = got-counts _ k .2
+  at-counts stage.FillCopy k = not-ten
+  at-counts stage.Put k = not-ten
+  at-counts (stage.Paging r) k = got-counts _ k .1
+
+  step-counts : Counts (counted (taskAt s t)) (step s t)
+  unfolding step
+  step-counts =
+      if-case (Counts (counted (taskAt s t))) (leb (s .sizes .t) t)
+      (λ _ e. absurd (let z : _≡_ {A = ℕ} 4 10 = e in omega arith))
+      (λ _. at-counts (taskAt s t .stage) (counted (taskAt s t)))
+
+-- the steps that the task's row has, and this one
+pub ten-counts : (f : Build) → MachineCall f → (t : ℕ) (p a : List ℕ) (d : Sizes) → Sound d p → 16 ≤ length a → numberOf f (Ask (Step t)) p a ≡ 10
+    → wordOf (answerAfter f (Ask (Step t)) p a) 1 ≡ taskAt (stateIn p) t .steps + 1
+unfolding callOf call counted listTo
+ten-counts f m t p a d S l e =
+    let q = m (Step t) p a d S l .1 in
+    sym (getD-take 16 (answerAfter f (Ask (Step t)) p a) 1 0 (omega arith)) ∙ ap (λ (z : ℕ × List ℕ). wordOf (z .1) 1) q ∙ step-counts (stateIn p) t (sym (ap (λ (z : ℕ × List ℕ). z .0) q) ∙ e)

@@ -1,4 +1,4 @@
--- Demand 2: a kept store does what the rule book's machine does, and every read is the functional array's.
+-- Demand 2: on a pool that passes the check each call does what the rule book's machine does; so on a kept store, whose every read is the functional array's.
 -- Rests on Histories, the bridge and the machine's theorems.
 use Prim.Native.Nat.{ℕ}
 use mathlib.Core.Bool.{true}
@@ -6,8 +6,9 @@ use mathlib.Core.List.{List}
 use mathlib.Core.Path.{_∙_, _≡_, ap, ap₂, refl, subst, subst⁻¹, sym}
 use native.Mathlib.Omega.{arith}
 use lib.ListN.{length}
-use Rattle.bridge.specs.Asked.{Asked, Bridged, Open, asked, askedAll, callsOf, sizesAfterAll}
-use Rattle.bridge.specs.Bridge.{bridge-all}
+use borrow.Author.Tests.{le-ltb}
+use Rattle.bridge.specs.Asked.{Asked, Bridged, Open, asked, askedAll, callOf, callsOf, sizesAfter, sizesAfterAll}
+use Rattle.bridge.specs.Bridge.{bridge, bridge-all}
 use Rattle.bridge.specs.Opening.{open-sound}
 use Rattle.bridge.specs.Sound.{Sound}
 use Rattle.layout.specs.Header.{sizesOf}
@@ -17,16 +18,26 @@ use Rattle.rulebook.specs.Answers.{refusal}
 use Rattle.rulebook.specs.declared.Reply.{Reply}
 use Rattle.rulebook.specs.declared.Sizes.{Sizes}
 use Rattle.rulebook.specs.History.{Ended, IsOpened, Past, Value, fresh, past, run, tableOf}
-use Rattle.rulebook.specs.Machine.{Call}
+use Rattle.rulebook.specs.Machine.{Call, call}
 use Rattle.rulebook.specs.Sizes.{opens}
-use Rattle.rulebook.specs.State.{State, liveHandle}
+use Rattle.rulebook.specs.State.{Result, State, listTo, liveHandle}
 use Rattle.rulebook.specs.Tests.{by-test}
 use Rattle.theorems.specs.Demands as theorems
 use Rattle.theorems.specs.Terms.{Every, HasGiven, In, IsRead, Once, byCell, cellsOf, onVersion, shown, upTo, valuesOf}
-use Rattle.promises.specs.Promises.{Kept, MachineAnswers, MachineHistory, MachineState, NumbersOnce, PagesJoin, PagesJoinAny, Reads, ReadsInOrder, StaysSound, Tables, diary, machineCalls, machineFirst, poolFirst}
-use Rattle.promises.specs.Proofs.Calls.{spoken-case}
+use Rattle.promises.specs.Promises.{Kept, MachineAnswers, MachineCall, MachineHistory, MachineState, NumbersOnce, PagesJoin, PagesJoinAny, Reads, ReadsInOrder, StaysSound, Tables, diary, machineCalls, machineFirst, poolFirst}
+use Rattle.promises.specs.Proofs.Calls.{spoken-case, spoken-long}
 use Rattle.promises.specs.Proofs.Histories.{calls-all, heeded, noted-all, pool-all, sound-state, told-all}
-use Rattle.promises.specs.Said.{Ask, Outcome, spoken, stateIn, tellings}
+use Rattle.promises.specs.Said.{Ask, Outcome, spoken, stateIn, tellings, tells, told}
+
+-- ---- a pool that passes the check
+
+pub machine-call : MachineCall spoken
+unfolding viewOf listTo
+machine-call x p a d S l =
+    let r : Result = call (callOf x p) (stateIn p) in
+    let b : Bridged (sizesAfter x p d) (asked x p) r = subst⁻¹ (λ (s : State). Bridged (sizesAfter x p d) (asked x p) (call (callOf x p) s)) (sound-state d p S) (bridge x S) in
+    subst⁻¹ (λ (z : Outcome). (stateIn (z .0 .0) ≡ r .0) × (told z ≡ tells (r .1)) × Sound (r .0 .sizes) (z .0 .0)) (spoken-long (Ask x) p a (le-ltb (length a) 16 l))
+    (sound-state _ _ (b .sound) ∙ b .state, ap tells (b .reply), subst (λ (c : Sizes). Sound c (asked x p .0)) (ap (λ (s : State). s .sizes) (b .state)) (b .sound))
 
 -- ---- an open that returned 0
 

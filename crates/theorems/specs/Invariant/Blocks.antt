@@ -18,7 +18,7 @@ use Rattle.rulebook.specs.declared.Slot.{Slot}
 use Rattle.rulebook.specs.declared.Stage.{Stage}
 use Rattle.rulebook.specs.declared.Status.the-variants.{Free, Live, Reserved}
 use Rattle.rulebook.specs.declared.Task.{Task}
-use Rattle.rulebook.specs.Sizes.{if_then_else_, room}
+use Rattle.rulebook.specs.Sizes.{if_then_else_}
 use Rattle.rulebook.specs.State.{Block, fills, logAt, reserves, withCell, withLog, writes}
 use Rattle.rulebook.specs.Tests.{by-test}
 use Rattle.theorems.specs.Invariant.Entries.{total-empty}

@@ -13,7 +13,6 @@ use Rattle.rulebook.specs.declared.Stage.the-variants.{Getting, Idle, Paging}
 use Rattle.rulebook.specs.declared.Status.{Status}
 use Rattle.rulebook.specs.declared.Status.the-variants.{Free, Live, Reserved}
 use Rattle.rulebook.specs.declared.Task.{Task}
-use Rattle.rulebook.specs.Answers.{words}
 use Rattle.rulebook.specs.Lists.{any-none, lowest-found, replicate-get}
 use Rattle.rulebook.specs.Machine.{Call, Get, LookCell, LookEntry, LookLog, LookTask, LookVersion, New, Open, Page, Release, Report, Set, Step, call, release}
 use Rattle.rulebook.specs.Sizes.{lastSerial, opens, room}
@@ -36,7 +35,7 @@ not-named s j h u n o =
     let p = any-none (λ (x : Task). names (x .stage) && eqb (x .slot) j) (s .tasks) idle h refl u in
     true≢false (sym (ap₂ (λ (x : Bool) (y : Bool). x && y) n (eq-eqb _ j o)) ∙ p)
 
-reserved≢live : Reserved ≡ Live → ⊥
+pub reserved≢live : Reserved ≡ Live → ⊥
 reserved≢live q = let z : _≡_ {A = ℕ} 0 1 = cc in omega arith
 
 is-free : (x : Status) → isFree x ≡ true → x ≡ Free

@@ -16,7 +16,6 @@ use Rattle.rulebook.specs.declared.Status.{Status}
 use Rattle.rulebook.specs.declared.Status.the-variants.{Live}
 use Rattle.rulebook.specs.declared.Task.{Task}
 use Rattle.rulebook.specs.Lists.{any-none, any-some, lowest-found}
-use Rattle.rulebook.specs.Sizes.{room}
 use Rattle.rulebook.specs.State.{Block, State, busy, filling, fills, freeBlock, freed, held, idle, isLive, names, reserves, slotAt, stood, taskAt, writes}
 use Rattle.rulebook.specs.Tests.{or-neither}
 use Rattle.theorems.specs.Invariant.Tasks.{Filler, Fresh, Named, OkAt, Writer}

@@ -14,7 +14,6 @@ use Rattle.rulebook.specs.declared.Slot.{Slot}
 use Rattle.rulebook.specs.declared.Stage.{Stage}
 use Rattle.rulebook.specs.declared.Status.the-variants.{Live, Reserved}
 use Rattle.rulebook.specs.declared.Task.{Task}
-use Rattle.rulebook.specs.Sizes.{room}
 use Rattle.rulebook.specs.State.{Block, State, blockAt, fills, logAt, names, noEntry, reserves, slotAt, taskAt, withCell, withLog, withVersion, writes}
 use Rattle.rulebook.specs.Tests.{by-test}
 use Rattle.theorems.specs.Invariant.Tasks.{Covered, Distinct, Frame, Keeps, Named, OkAt, Stands, frame}

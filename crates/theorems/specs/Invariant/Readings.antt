@@ -25,7 +25,7 @@ use Rattle.theorems.specs.Invariant.Moves.{Apart, Carries, Goes, InvS, S
 use Rattle.theorems.specs.Invariant.Shape.{Shape, Wide}
 use Rattle.theorems.specs.Invariant.Tasks.{Copied, Fresh, Keeps, Named, OkAt, Reads, Stands, Writer}
 use Rattle.theorems.specs.Reading.Get.{After, get-step}
-use Rattle.theorems.specs.Terms.{more, valueAt}
+use Rattle.theorems.specs.Terms.{valueAt}
 
 module _ (s : State) (sh : Shape s) (iv : InvS s) (t : ℕ) (inT : t < s .sizes .t) where
   pub in-tasks : t < length (s .tasks)

@@ -15,7 +15,6 @@ use Rattle.rulebook.specs.declared.Slot.{Slot}
 use Rattle.rulebook.specs.declared.Stage.{Stage}
 use Rattle.rulebook.specs.declared.Stage.the-variants.{Append, Copying, Exchange, FillCopy, FillNew, Getting, Idle, Paging, Put, Read, TakeCopy, TakeNew, Write}
 use Rattle.rulebook.specs.declared.Task.{Task}
-use Rattle.rulebook.specs.Answers.{words}
 use Rattle.rulebook.specs.Lists.{listTo-length}
 use Rattle.rulebook.specs.Machine.{Call, Get, LookCell, LookEntry, LookLog, LookTask, LookVersion, New, Open, Page, Release, Report, Set, Step, call, release}
 use Rattle.rulebook.specs.Sizes.{mostCells, mostHandles, opens, room, within}

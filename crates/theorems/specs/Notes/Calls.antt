@@ -14,9 +14,8 @@ use Rattle.rulebook.specs.declared.Reply.{Reply}
 use Rattle.rulebook.specs.declared.Reply.the-variants.{Quiet, Refused}
 use Rattle.rulebook.specs.declared.Slot.{Slot}
 use Rattle.rulebook.specs.declared.Stage.the-variants.{Exchange, Getting, Paging, TakeNew}
-use Rattle.rulebook.specs.declared.Status.the-variants.{Live, Reserved}
+use Rattle.rulebook.specs.declared.Status.the-variants.{Live}
 use Rattle.rulebook.specs.declared.Task.{Task}
-use Rattle.rulebook.specs.Answers.{words}
 use Rattle.rulebook.specs.History.{IsOpened, Past, Value, Work, accepted, change, fresh, making, next, noted, onward, paging, past, reading, released, resting, setsBound, setting, started, tableOf}
 use Rattle.rulebook.specs.Lists.{any-replicate, any-set, replicate-get}
 use Rattle.rulebook.specs.Machine.{Call, Get, LookCell, LookEntry, LookLog, LookTask, LookVersion, New, Open, Page, Release, Report, Set, Step, call, lookCell, lookEntry, lookLog, lookTask, lookVersion, release, report}
@@ -26,7 +25,7 @@ use Rattle.rulebook.specs.State.{Result, State, blockAt, busy, freeSlot, freed,
 use Rattle.rulebook.specs.Steps.{hereOf}
 use Rattle.rulebook.specs.Tests.{by-test, if-case}
 use Rattle.theorems.specs.Invariant.Blocks.{free≢live}
-use Rattle.theorems.specs.Invariant.Calls.{Handle, idle-task, inv-get, inv-new, inv-opened, inv-page, inv-release, inv-set, live-handle}
+use Rattle.theorems.specs.Invariant.Calls.{Handle, idle-task, inv-get, inv-new, inv-opened, inv-page, inv-release, inv-set, live-handle, reserved≢live}
 use Rattle.theorems.specs.Invariant.Moves.{Goes, InvS}
 use Rattle.theorems.specs.Invariant.Shape.{Shape, shape-call, shape-opened}
 use Rattle.theorems.specs.Notes.Step.{Noted, Notes, notes-step, right-on, sound-on}
@@ -109,9 +108,6 @@ module _ (p : Past) (np : Notes p) (t : ℕ) where
 
       other : (j : ℕ) → (j ≡ f → ⊥) → slotAt (q .store) j ≡ slotAt s j
       other j d = ap (λ (l : List Slot). getD l j (freed 0)) e ∙ getD-set-other (s .slots) f j y (freed 0) d
-
-  reserved≢live : Reserved ≡ Live → ⊥
-  reserved≢live q = let z : _≡_ {A = ℕ} 0 1 = cc in omega arith
 
   -- the numberOf of a live handle
   pub same-number : (h : ℕ) → Handle s h → numberOf s (h % 256) ≡ h

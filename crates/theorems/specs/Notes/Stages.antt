@@ -1,16 +1,15 @@
 -- Each stage's step shows it.
 -- Rests on Fair and Tables.
-use Prim.Native.Nat.{_*_, _+_, _-_, _<_, _≤_, suc, zero, zero-le, ℕ}
+use Prim.Native.Nat.{_*_, _+_, _-_, _<_, _≤_, suc, zero, ℕ}
 use mathlib.Core.Bool.{false≢true, true}
-use mathlib.Core.List.{List, [], _++_, _∷_}
+use mathlib.Core.List.{List, [], _++_, _∷_, append-nil}
 use mathlib.Core.Path.{_∙_, _≡_, ap, ap₂, refl, subst, sym}
 use native.Mathlib.Nat.{suc-mul}
 use native.Mathlib.Omega.{arith}
 use lib.Dec.{eqb, leb, ltb}
-use lib.ListN.{getD, length, length-replicate, length-set, replicate, set}
+use lib.ListN.{getD-replicate, length, length-replicate, length-set, set}
 use lib.Seq.{getD-set-other, getD-set-same}
 use borrow.Author.Tests.{eqb-false, eqb-true}
-use Rattle.rulebook.specs.declared.Entry.{Entry}
 use Rattle.rulebook.specs.declared.Progress.{Progress}
 use Rattle.rulebook.specs.declared.Progress.the-variants.{Going, Settled}
 use Rattle.rulebook.specs.declared.Reading.{Reading}
@@ -31,21 +30,10 @@ use Rattle.theorems.specs.Invariant.Tasks.{Fresh, Named, Reads}
 use Rattle.theorems.specs.Notes.Fair.{Fair, Leads, Right, fair-new, fair-none, fair-same, slots-kept}
 use Rattle.theorems.specs.Notes.Tables.{Changed, fill-table, put-table, write-table}
 use Rattle.theorems.specs.Notes.Told.{For, PageFor, Told, live-slot, most, number-old, numberOf}
-use Rattle.theorems.specs.Prices.Budget.{CopyAt, CopyLess, Within, copy-at, copy-less, passed, passed-total, within-grows}
+use Rattle.theorems.specs.Prices.Budget.{CopyAt, CopyLess, Within, copy-at, copy-less, log-entries, passed, passed-total, within-grows}
 use Rattle.theorems.specs.Prices.Digits.{Less, get-less, leftOf, unsettled-good}
 use Rattle.theorems.specs.Reading.Get.{After}
-use Rattle.theorems.specs.Terms.{Spent, digits, entries, more, none, pageOf, valueAt}
-
--- a log is no longer than all logs together
-pub log-total : (ls : List (List Entry)) (i : ℕ) → length (getD ls i []) ≤ entries ls
-unfolding entries
-log-total [] i = zero-le
-log-total (l ∷ ls) zero = omega arith
-log-total (l ∷ ls) (suc i) = omega (arith, log-total ls i)
-
-append-none : {A : Type 0} (l : List A) → l ++ [] ≡ l
-append-none [] = refl
-append-none (x ∷ l) = ap (x ∷_) (append-none l)
+use Rattle.theorems.specs.Terms.{Spent, digits, more, none, pageOf, valueAt}
 
 -- one cell more of a page
 page-more : (h : ℕ) (x : List ℕ) (i n : ℕ) → pageOf h x i n ++ (record { handle = h; cell = i + n; value = getTable x (i + n) } ∷ []) ≡ pageOf h x i (suc n)
@@ -119,7 +107,7 @@ module _ (p : Past) (tp : Told p) (t : ℕ) (inT : t < p .store .sizes .t) where
   unfolding gotPage moved counted withTask stepped
   fair-page (Going r' w) r h e bz named inN a less =
       fair-same p tp t inT _ _ _ (moved (counted k) (Paging r') w) bz refl refl (slots-kept p tp t inT _ refl) (λ e. refl) (λ e. named .lives)
-      (record { from = h .from; size = h .size; done = h .done; is = h .is; at = a .1 ∙ h .at; until-is = h .until-is; price = omega (arith, h .price); so-far = append-none (p .given t) ∙ h .so-far }) (λ _. tt) refl none none (λ e. absurd (false≢true e))
+      (record { from = h .from; size = h .size; done = h .done; is = h .is; at = a .1 ∙ h .at; until-is = h .until-is; price = omega (arith, h .price); so-far = append-nil (p .given t) ∙ h .so-far }) (λ _. tt) refl none none (λ e. absurd (false≢true e))
   fair-page (Settled w) r h e bz named inN a less =
       if-case (Here (paging m (h .from) (h .size))) (eqb (w .cell + 1) (k .until))
       (λ z. fair-same p tp t inT _ _ _ idle bz refl refl (slots-kept p tp t inT _ refl) (λ e. absurd (false≢true e)) (λ e. absurd (false≢true e)) tt (λ _. tt) refl
@@ -234,19 +222,14 @@ module _ (p : Past) (tp : Told p) (t : ℕ) (inT : t < p .store .sizes .t) where
       if-case (Here (making (k .value))) (eqb (k .hand .cell + 1) (s .sizes .n))
       (λ q. fair-new p tp t inT (making (k .value)) (k .target) _ (k .target) 0 (newTable (s .sizes .n) (k .value)) bz (h .0) (λ a z. refl) (λ a. refl) (λ a. refl) (my-spent FillNew e (omega (arith, my-within FillNew e, eqb-true (k .hand .cell + 1) (s .sizes .n) q))) (omega (arith, my-within FillNew e, eqb-true (k .hand .cell + 1) (s .sizes .n) q)) (λ l. tt)
       (length-replicate (s .sizes .n) (k .value))
-      (λ j z. fill-table s (tp .shape) (tp .inv) t inT e (eqb-true (k .hand .cell + 1) (s .sizes .n) q) j z ∙ sym (replicate-at (s .sizes .n) (k .value) j z)))
+      (λ j z. fill-table s (tp .shape) (tp .inv) t inT e (eqb-true (k .hand .cell + 1) (s .sizes .n) q) j z ∙ sym (getD-replicate (s .sizes .n) j (k .value) 0 z)))
       (λ q. fair-same p tp t inT _ _ Quiet _ bz refl refl (slots-kept p tp t inT _ refl) (λ z. refl) (λ z. absurd (false≢true z)) is (λ _. ap (_+ 1) (my-within FillNew e)) refl none none (λ z. absurd (false≢true z)))
-    where
-      replicate-at : (n v j : ℕ) → j < n → getD (replicate n v) j 0 ≡ v
-      replicate-at zero v j z = absurd (omega arith)
-      replicate-at (suc n) v zero z = refl
-      replicate-at (suc n) v (suc j) z = replicate-at n v j (omega arith)
 
   -- ---- every stage
 
   -- a log of the block on which the task's handle stands
   few-entries : Named (slotAt s) (k .slot) (k .block) (k .number) → (i : ℕ) → length (logAt (hereOf s k) i) ≤ s .sizes .n
-  few-entries h i = omega (arith, log-total (hereOf s k .logs) i, my-stands s (tp .shape) (tp .inv) t inT h .few-cells)
+  few-entries h i = omega (arith, log-entries (hereOf s k) i, my-stands s (tp .shape) (tp .inv) t inT h .few-cells)
 
   my-less : (r : Reading) → Named (slotAt s) (k .slot) (k .block) (k .number) → Reads (s .sizes .n) r (hereOf s k) (k .number) (k .hand) → Less (s .sizes .n) (leftOf (s .sizes .n) r (k .hand)) (getStep r (hereOf s k) (k .number) (k .hand))
   my-less r h rd = get-less r (s .sizes .n) (hereOf s k) (k .number) (k .hand) (few-entries h (k .hand .cell)) (unsettled-good r _ _ _ _ (rd .good))

@@ -79,6 +79,10 @@ passed-total b i = passed-logs i (b .logs)
 pub passed-next : (b : Block) (i : ℕ) → passed b (i + 1) ≡ passed b i + length (logAt b i)
 passed-next b i = ap (λ (x : ℕ). passed b x) (omega arith) ∙ sum-last i (λ (j : ℕ). length (logAt b j))
 
+-- a log has at most the entries of its block
+pub log-entries : (b : Block) (i : ℕ) → length (logAt b i) ≤ entries (b .logs)
+log-entries b i = omega (arith, passed-total b (i + 1), passed-next b i)
+
 -- ---- what a set may still spend
 
 -- a copy that is to read its cell, or is at it; n is the number of cells

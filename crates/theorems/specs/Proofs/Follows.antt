@@ -10,7 +10,6 @@ use lib.Seq.{getD-set-other, getD-set-same}
 use borrow.Author.Tests.{eqb-false, eqb-true, not-false}
 use Rattle.rulebook.specs.declared.Sizes.{Sizes}
 use Rattle.rulebook.specs.declared.Slot.{Slot}
-use Rattle.rulebook.specs.Answers.{words}
 use Rattle.rulebook.specs.History.{Past, accepted, fresh, next, noted, onward, past, released, run, started, stepped}
 use Rattle.rulebook.specs.Lists.{replicate-get}
 use Rattle.rulebook.specs.Machine.{Call, Get, LookCell, LookEntry, LookLog, LookTask, LookVersion, New, Open, Page, Release, Report, Set, Step, call, release}

@@ -12,6 +12,10 @@ use Rattle.rulebook.specs.State.{listTo}
 use Rattle.rulebook.specs.Tests.{if-case}
 use Rattle.theorems.specs.Terms.{Every, In, byCell, cellsOf, here, insert, more, none, onVersion, there, valuesOf}
 
+pub every-in : {A : Type 0} {P : A → Type 0} {x : A} {l : List A} → Every P l → In x l → P x
+every-in (more p e) here = p
+every-in (more p e) (there q) = every-in e q
+
 module _ {P : Value → Type 0} where
   every-insert : (r : Value) {l : List Value} → P r → Every P l → Every P (insert r l)
   unfolding insert
@@ -22,10 +26,6 @@ module _ {P : Value → Type 0} where
   unfolding byCell
   every-by-cell none = none
   every-by-cell (more p e) = every-insert _ p (every-by-cell e)
-
-  pub every-in : {r : Value} {l : List Value} → Every P l → In r l → P r
-  every-in (more p e) here = p
-  every-in (more p e) (there q) = every-in e q
 
   pub every-version : (h : ℕ) {l : List Value} → Every P l → Every (λ (r : Value). P r × (r .handle ≡ h)) (onVersion h l)
   unfolding onVersion

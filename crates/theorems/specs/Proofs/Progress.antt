@@ -15,11 +15,11 @@ use Rattle.rulebook.specs.declared.Slot.{Slot}
 use Rattle.rulebook.specs.declared.Stage.{Stage}
 use Rattle.rulebook.specs.declared.Stage.the-variants.{Append, Copying, Exchange, FillCopy, FillNew, Getting, Idle, Paging, Put, Read, TakeCopy, TakeNew, Write}
 use Rattle.rulebook.specs.declared.Task.{Task}
-use Rattle.rulebook.specs.Answers.{refusal, stageCode, words}
+use Rattle.rulebook.specs.Answers.{refusal, stageCode}
 use Rattle.rulebook.specs.History.{Past, Value, Work, accepted, change, fresh, making, next, noted, one, paging, reading, released, setting, started, stepped}
 use Rattle.rulebook.specs.Lists.{replicate-get}
 use Rattle.rulebook.specs.Machine.{Call, Get, LookCell, LookEntry, LookLog, LookTask, LookVersion, New, Open, Page, Release, Report, Set, Step, call, lookCell, lookEntry, lookLog, lookTask, lookVersion, release, report}
-use Rattle.rulebook.specs.Sizes.{if_then_else_, opens, room}
+use Rattle.rulebook.specs.Sizes.{if_then_else_, opens}
 use Rattle.rulebook.specs.Starts.{Lie, opened, opening}
 use Rattle.rulebook.specs.State.{Block, Result, State, busy, idle, taskAt}
 use Rattle.rulebook.specs.Steps.{step}
@@ -32,7 +32,7 @@ use Rattle.theorems.specs.Notes.Told.{For, change-other, change-same}
 use Rattle.theorems.specs.Prices.Budget.{Within, copy-some}
 use Rattle.theorems.specs.Prices.Digits.{left-some, unsettled-good}
 use Rattle.theorems.specs.Proofs.Causes.{fits-call}
-use Rattle.theorems.specs.Terms.{Ends, causes, digits, due, full, isStep, later, more, now, price, stepsIn}
+use Rattle.theorems.specs.Terms.{Ends, causes, digits, due, full, isStep, later, now, price, stepsIn}
 
 -- a step of a busy task is taken
 pub busy-step : (s : State) (t : ℕ) → t < s .sizes .t → busy (taskAt s t .stage) ≡ true → accepted (step s t .1) ≡ true

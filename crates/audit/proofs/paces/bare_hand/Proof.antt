@@ -1,4 +1,4 @@
-use Rattle.survey.specs.Broken.{bareHand}
+use Rattle.survey.specs.Holds.{bareHand}
 use Rattle.audit.specs.Paces.{bareSearch, bares}
 use borrow.Author.Needs.{needs}
 use Rattle.audit.proofs.paces.bare_hand.Statement.{statement}

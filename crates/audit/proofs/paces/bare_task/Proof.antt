@@ -1,4 +1,4 @@
-use Rattle.survey.specs.Broken.{bareTask}
+use Rattle.survey.specs.Holds.{bareTask}
 use Rattle.audit.specs.Paces.{bareRest, bares}
 use borrow.Author.Needs.{needs}
 use Rattle.audit.proofs.paces.bare_task.Statement.{statement}

@@ -13,7 +13,7 @@ rule-seven-spec =
     (λ c. search (needs, parts))
     (λ c κs. (search needs, part-paced _ _ _ (c .before .before .before .slots-sound .ensures) (c .before .before .if1 .left) _ (c .before .tasks-sound .ensures) (c .if2 .left) (search needs)))
     (λ c. search (needs, parts))
-    (λ c κs. part-known _ _ _ (c .before .before .before .before .before .slots-sound .ensures) (c .before .before .before .before .if1 .left) _ (c .before .before .before .tasks-sound .ensures) (c .before .before .if2 .left) (search needs) (search needs) (search needs))
+    (λ c κs. part-known _ _ _ (c .before .before .before .before .before .slots-sound .ensures) (c .before .before .before .before .if1 .left) _ (c .before .before .before .tasks-sound .ensures) (c .before .before .if2 .left) (search needs) (search needs) (search needs) (search needs))
     (λ c. search (needs, parts))
     (λ c κs. search needs)
     (λ c. search (needs, parts))
