@@ -73,7 +73,8 @@ static uint32_t some_task(int busy) {
 }
 
 static struct call some_call(enum kind kind) {
-    struct call k = {kind, some_task(kind == STEP), some_handle(), odd(below(n)), draw()};
+    uint32_t task = some_task(kind == STEP), handle = some_handle(), cell = odd(below(n));
+    struct call k = {kind, task, handle, cell, draw()};
     if (kind == RELEASE) k.a = k.b;
     if (kind >= LOOK_VERSION && kind <= LOOK_ENTRY) k.a = odd(below(b));
     if (kind >= LOOK_CELL) k.b = k.c;

@@ -61,13 +61,14 @@ int one_in(uint32_t n) { return below(n) == 0; }
 
 static size_t some_place(struct sizes d) {
     uint32_t control = 16 + 4 * d.h + 32 * d.t, block = 20 * d.n + 16;
-    switch (below(8)) {
+    uint32_t way = below(8), task = below(d.t), taken = below(d.b); /* one after another: C leaves the order within a sum open */
+    switch (way) {
     case 0: return one_in(4) ? below(6) : below(16);
     case 1:
     case 2: return 16 + below(4 * d.h);
     case 3:
-    case 4: return 16 + 4 * d.h + 32 * below(d.t) + below(17);
-    case 5: return control + below(d.b) * block + below(2);
+    case 4: return 16 + 4 * d.h + 32 * task + below(17);
+    case 5: return control + taken * block + below(2);
     default: return control + below(d.b * block);
     }
 }

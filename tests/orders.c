@@ -333,29 +333,31 @@ static uint32_t some_handle(void) {
 
 static uint32_t some_cell(void) { return one_in(60) ? m.n + below(2) : below(m.n); }
 
-static void some_page(uint32_t t) {
+static void some_page(uint32_t t, uint32_t handle) {
     uint32_t from = below(m.n), count = one_in(40) ? below(m.n + 2) : 1 + below(m.n - from);
-    start_page(t, some_handle(), from, count);
+    start_page(t, handle, from, count);
 }
 
+/* drawn one after another: C leaves the order of a call's arguments open */
 static void some_start(void) {
-    uint32_t t = some_task();
-    switch (below(8)) {
+    uint32_t t = some_task(), way = below(8), handle = some_handle(), cell = some_cell();
+    switch (way) {
     case 0: start_new(t, draw()); break;
     case 1:
     case 2:
-    case 3: start_set(t, some_handle(), some_cell(), draw()); break;
+    case 3: start_set(t, handle, cell, draw()); break;
     case 4:
     case 5:
-    case 6: start_get(t, some_handle(), some_cell()); break;
-    default: some_page(t); break;
+    case 6: start_get(t, handle, cell); break;
+    default: some_page(t, handle); break;
     }
 }
 
 static void some_look(void) {
-    switch (below(4)) {
+    uint32_t way = below(4), slot = below(m.h);
+    switch (way) {
     case 0: look_block(below(m.b + 1)); break;
-    case 1: look_cells(below(m.h), some_cell()); break;
+    case 1: look_cells(slot, some_cell()); break;
     case 2: look_task(some_task()); break;
     default: report(); break;
     }
