@@ -11,7 +11,7 @@ use Rattle.rulebook.specs.Sizes.{blockWords, directoryWidth, if_then_else_, mos
 use Rattle.block.specs.Chunks.{chunk-lt}
 use Rattle.block.specs.Layout.{Reach, Sized, arena, entryIx, entryOf, lengthIx, lengthOf, placeOf}
 
--- a version that no entry has
+-- a version that rule 3 allows no entry: V is at most N + 1
 abbrev pub outside : ℕ
 outside = 4294967295
 

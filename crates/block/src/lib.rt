@@ -1,5 +1,5 @@
 // One block's words, a lent part of the pool: V, the cells, and a log for each cell in chunks that double.
-// No public function asks anything of what the words say: a number outside the block or its layout is answered, and changes nothing.
+// No public function asks anything of what the words say: a number outside the block or its layout is answered, and changes nothing. Those of raw ask for a block and a cell of it.
 mod change;
 mod raw;
 mod walk;

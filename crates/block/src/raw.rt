@@ -10,7 +10,7 @@ ghost use Prim.Native.Nat.{_≤_, _<_};
 ghost use Rattle.block.specs.Layout.{Sized, bumpOf, lengthOf, versionOf};
 ghost use Rattle.block.specs.Raw.{stampIn};
 
-// A version that no entry has.
+// A version that rule 3 allows no entry: V is at most N + 1.
 const OUTSIDE: u32 = 4294967295;
 
 // V.
@@ -38,7 +38,7 @@ pub fn raw_length(b: &[u32], n: u32, i: u32) -> u32
     b[at]
 }
 
-// The version of entry j of that log, wherever the log ends; one that no entry has where its place is not in the arena.
+// The version of entry j of that log, wherever the log ends; OUTSIDE where its place is not in the arena.
 pub fn raw_stamp(b: &[u32], n: u32, i: u32, j: u32) -> u32
     requires { ⌜ Sized n (now b) × (i < n) × (j ≤ n) ⌝ }
     ensures { λ r. ⌜ r ≡ stampIn n (now (b .entry)) i j ⌝ }
