@@ -1,6 +1,6 @@
 -- What a caller sees of an answer: document 01's refusal number and the words of the answer, for every case; the codes of operation and stage.
 -- Rests on the types that the crate declares.
-use Rattle.std.specs.Prelude.{ℕ, List, [], ◌∷◌, get_or}
+use Rattle.std.specs.Prelude.{ℕ, List, [], ◌∷◌, get_or, if◌then◌else◌}
 use Rattle.rulebook.specs.declared.Reading.{Reading}
 use Rattle.rulebook.specs.declared.Reading.TheVariants.{Guess, Version, Length, Probe}
 use Rattle.rulebook.specs.declared.Stage.{Stage}
@@ -8,7 +8,6 @@ use Rattle.rulebook.specs.declared.Stage.TheVariants.{Idle, TakeNew, FillNew, Ge
 use Rattle.rulebook.specs.declared.Task.{Task}
 use Rattle.rulebook.specs.declared.Reply.{Reply}
 use Rattle.rulebook.specs.declared.Reply.TheVariants.{Refused, Full, Quiet, Opened, Handed, HandedLast, Got, Made, Shown, ShownEntry, ShownTask, Reported}
-use Rattle.rulebook.specs.Sizes.{if◌then◌else◌}
 
 -- 0 idle, 1 new, 2 get, 3 set, 4 page
 abbrev pub operation : Stage → ℕ

@@ -1,9 +1,9 @@
 -- Histories: what has happened over a list of calls, in any order and with any arguments, from an opened state.
 -- Rests on the machine and the functional array. What is noted is read off the calls and their answers, as the caller sees them.
-use Rattle.std.specs.Prelude.{ℕ, ◌+◌, ◌*◌, ◌≡◌, Bool, true, not, ◌&&◌, ◌||◌, List, [], ◌∷◌, ◌++◌, eqb}
+use Rattle.std.specs.Prelude.{ℕ, ◌+◌, ◌*◌, ◌≡◌, Bool, true, not, ◌&&◌, ◌||◌, List, [], ◌∷◌, ◌++◌, eqb, if◌then◌else◌}
 use Rattle.rulebook.specs.declared.Stage.{Stage}
 use Rattle.rulebook.specs.declared.Reply.{Reply}
-use Rattle.rulebook.specs.Sizes.{if◌then◌else◌, opens}
+use Rattle.rulebook.specs.Sizes.{opens}
 use Rattle.rulebook.specs.State.{State, block_at, task_at, exchanges}
 use Rattle.rulebook.specs.Answers.{stage_code, refusal, word}
 use Rattle.rulebook.specs.Starts.{Lie, opened}

@@ -1,9 +1,9 @@
 -- Release, the looks, the report; and every call of document 01 as one function from a state to the next state and an answer.
 -- Rests on Starts and Steps; refusals stand in document 01's order.
-use Rattle.std.specs.Prelude.{ℕ, not, ◌||◌, length, leb}
+use Rattle.std.specs.Prelude.{ℕ, not, ◌||◌, length, leb, if◌then◌else◌}
 use Rattle.rulebook.specs.declared.Reply.{Reply}
 use Rattle.rulebook.specs.declared.Reply.TheVariants.{Refused, Quiet, Shown, ShownEntry, ShownTask, Reported}
-use Rattle.rulebook.specs.Sizes.{if◌then◌else◌, slot_of}
+use Rattle.rulebook.specs.Sizes.{slot_of}
 use Rattle.rulebook.specs.State.{State, Result, freed, cell_at, log_at, entry_at, block_at, slot_at, task_at, with_slot, count, is_live, stood, live_handle, in_use}
 use Rattle.rulebook.specs.Starts.{Lie, opening, start_new, start_get, start_set, start_page}
 use Rattle.rulebook.specs.Steps.{step}

@@ -1,12 +1,6 @@
 -- Document 01, 'Sizes': the limits, the words of each part of a pool, and when a pool may be opened. Later changes of a size are made here alone.
 -- Rests on nothing.
-use Rattle.std.specs.Prelude.{ℕ, ◌+◌, ◌-◌, ◌*◌, ◌/◌, ◌%◌, min, Bool, true, false, ◌&&◌, leb}
-
-infix 2 if◌then◌else◌
--- the second where the test passes, else the third
-abbrev pub if◌then◌else◌ {ℓ} : {A : Type ℓ} → Bool → A → A → A
-if true then x else y = x
-if false then x else y = y
+use Rattle.std.specs.Prelude.{ℕ, ◌+◌, ◌-◌, ◌*◌, ◌/◌, ◌%◌, min, Bool, ◌&&◌, leb}
 
 -- ---- the table of sizes
 

@@ -1,6 +1,6 @@
 -- Opening a store, and starting a task: new, get, set and page.
 -- Rests on State; refusals stand in document 01's order.
-use Rattle.std.specs.Prelude.{ℕ, ◌+◌, Bool, not, ◌||◌, List, replicate, ltb, leb, eqb}
+use Rattle.std.specs.Prelude.{ℕ, ◌+◌, Bool, not, ◌||◌, List, replicate, ltb, leb, eqb, if◌then◌else◌}
 use Rattle.rulebook.specs.declared.Entry.{Entry}
 use Rattle.rulebook.specs.declared.Status.TheVariants.{Reserved}
 use Rattle.rulebook.specs.declared.Reading.TheVariants.{Guess}
@@ -8,7 +8,7 @@ use Rattle.rulebook.specs.declared.Stage.{Stage}
 use Rattle.rulebook.specs.declared.Stage.TheVariants.{TakeNew, Getting, Exchange, Paging}
 use Rattle.rulebook.specs.declared.Task.{Task}
 use Rattle.rulebook.specs.declared.Reply.TheVariants.{Refused, Quiet, Opened}
-use Rattle.rulebook.specs.Sizes.{if◌then◌else◌, room, opens, slot_of}
+use Rattle.rulebook.specs.Sizes.{room, opens, slot_of}
 use Rattle.rulebook.specs.State.{State, Result, freed, hand_of, idle, slot_at, task_at, with_slot, with_task, list_to, busy, free_slot, live_handle}
 
 -- ---- open

@@ -1,6 +1,6 @@
 -- Document 01, 'Blocks, handles, tasks': what a store is, and which blocks, slots and handles are held, free, live and in use.
 -- Rests on the types that the crate declares.
-use Rattle.std.specs.Prelude.{ℕ, zero, suc, ◌+◌, Bool, true, false, not, ◌&&◌, ◌||◌, List, [], ◌∷◌, get_or, set, ltb, eqb}
+use Rattle.std.specs.Prelude.{ℕ, zero, suc, ◌+◌, Bool, true, false, not, ◌&&◌, ◌||◌, List, [], ◌∷◌, get_or, set, ltb, eqb, if◌then◌else◌}
 use Rattle.rulebook.specs.declared.Sizes.{Sizes}
 use Rattle.rulebook.specs.declared.Entry.{Entry}
 use Rattle.rulebook.specs.declared.Status.{Status}
@@ -11,7 +11,7 @@ use Rattle.rulebook.specs.declared.Stage.TheVariants.{Idle, TakeNew, FillNew, Ge
 use Rattle.rulebook.specs.declared.Hand.{Hand}
 use Rattle.rulebook.specs.declared.Task.{Task}
 use Rattle.rulebook.specs.declared.Reply.{Reply}
-use Rattle.rulebook.specs.Sizes.{if◌then◌else◌, last_serial, slot_of, serial_of}
+use Rattle.rulebook.specs.Sizes.{last_serial, slot_of, serial_of}
 
 -- a block: its version V, its cells, and for each cell a log of entries, oldest first
 pub record Block : Type 0 where

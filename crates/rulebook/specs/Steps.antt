@@ -1,6 +1,6 @@
 -- Document 01, 'One step each': what one step of a task does to the store, and what it answers.
 -- Rests on State. Each function is given the task k with this step counted.
-use Rattle.std.specs.Prelude.{ℕ, ◌+◌, ◌-◌, ◌/◌, true, false, List, [], ◌∷◌, ◌++◌, length, ltb, leb, eqb}
+use Rattle.std.specs.Prelude.{ℕ, ◌+◌, ◌-◌, ◌/◌, true, false, List, [], ◌∷◌, ◌++◌, length, ltb, leb, eqb, if◌then◌else◌}
 use Rattle.rulebook.specs.declared.Entry.{Entry}
 use Rattle.rulebook.specs.declared.Status.TheVariants.{Live}
 use Rattle.rulebook.specs.declared.Reading.{Reading}
@@ -12,7 +12,7 @@ use Rattle.rulebook.specs.declared.Progress.{Progress}
 use Rattle.rulebook.specs.declared.Progress.TheVariants.{Going, Settled}
 use Rattle.rulebook.specs.declared.Task.{Task}
 use Rattle.rulebook.specs.declared.Reply.TheVariants.{Refused, Full, Quiet, Handed, HandedLast, Got, Made}
-use Rattle.rulebook.specs.Sizes.{if◌then◌else◌, public_number}
+use Rattle.rulebook.specs.Sizes.{public_number}
 use Rattle.rulebook.specs.State.{Block, State, Result, freed, hand_of, idle, cell_at, log_at, entry_at, block_at, slot_at, task_at, with_block, with_slot, with_task, with_version, with_cell, with_log, free_block}
 
 -- ---- a task that goes on

@@ -1,9 +1,8 @@
 -- Laws of tests: a proof goes by whether a test passes, with the equation that says so.
 -- Rests on nothing.
-use Rattle.std.specs.Prelude.{◌≡◌, refl, Bool, true, false, ◌&&◌, ◌||◌}
+use Rattle.std.specs.Prelude.{◌≡◌, refl, Bool, true, false, ◌&&◌, ◌||◌, if◌then◌else◌}
 use Rattle.std.proofs.lemmas.Bool.{false≢true}
 use Rattle.std.proofs.Common.{true≢false}
-use Rattle.rulebook.specs.Sizes.{if◌then◌else◌}
 
 -- a test passes or fails
 pub by_test {ℓ} : {P : Type ℓ} (b : Bool) → (b ≡ true → P) → (b ≡ false → P) → P

@@ -1,7 +1,8 @@
 // The types that the machine's definitions and the store's code share, in document 01's words.
+#![tactic(auto)]
 
 // N, H, T, B: how many cells, handles, tasks and blocks a store has.
-#[derive(Drop)]
+#[derive(Clone, Copy)]
 pub struct Sizes {
     pub n: u32,
     pub h: u32,
@@ -10,13 +11,13 @@ pub struct Sizes {
 }
 
 // One entry of a cell's log: a version, and the cell's old value in it.
-#[derive(Drop)]
+#[derive(Clone, Copy)]
 pub struct Entry {
     pub version: u32,
     pub old: u32,
 }
 
-#[derive(Drop)]
+#[derive(Clone, Copy)]
 pub enum Status {
     Free,
     Reserved,
@@ -24,7 +25,7 @@ pub enum Status {
 }
 
 // A slot: how many handles it has carried, and, while it is live, where its handle stands: the block and the handle's own number L.
-#[derive(Drop)]
+#[derive(Clone, Copy)]
 pub struct Slot {
     pub serial: u32,
     pub status: Status,
@@ -33,7 +34,7 @@ pub struct Slot {
 }
 
 // The steps of a get: each reads the cell (the guess), V, the log's length, or one entry.
-#[derive(Drop)]
+#[derive(Clone, Copy)]
 pub enum Reading {
     Guess,
     Version,
@@ -42,7 +43,7 @@ pub enum Reading {
 }
 
 // What a task's next step does: operation and stage in one, exactly the pairs that occur.
-#[derive(Drop)]
+#[derive(Clone, Copy)]
 pub enum Stage {
     Idle,
     // new
@@ -64,7 +65,7 @@ pub enum Stage {
 }
 
 // The get in hand: its cell, the guess, the bounds of its search, whether there is a candidate, its value and its version.
-#[derive(Drop)]
+#[derive(Clone, Copy)]
 pub struct Hand {
     pub cell: u32,
     pub guess: u32,
@@ -76,7 +77,7 @@ pub struct Hand {
 }
 
 // A get after a step: it goes on with another reading, or it has its answer.
-#[derive(Drop)]
+#[derive(Clone, Copy)]
 pub enum Progress {
     Going(Reading, Hand),
     Settled(Hand),
@@ -84,7 +85,7 @@ pub enum Progress {
 
 // A task. Of the handle that it names: the slot, and the block and number that it took at its start.
 // cell, value: a set's i and v. until: the cell after a page's last. fresh: the slot that it reserved. target: the block that it fills.
-#[derive(Drop)]
+#[derive(Clone, Copy)]
 pub struct Task {
     pub stage: Stage,
     pub slot: u32,
@@ -100,7 +101,7 @@ pub struct Task {
 }
 
 // What a call answers. Specs/Answers.antt gives document 01's refusal number and answer words for every case.
-#[derive(Drop)]
+#[derive(Clone, Copy)]
 pub enum Reply {
     // a refusal but 10: its number
     Refused(u32),

@@ -1,6 +1,6 @@
 -- No call looks at an amount: to erase the amounts after a call or before it gives the same state.
 -- Rests on Erase.
-use Rattle.std.specs.Prelude.{◌+◌, ℕ, Bool, ◌||◌, false, not, true, List, [], ◌++◌, ◌∷◌, ◌≡◌, refl, eqb, leb, ltb, length, replicate}
+use Rattle.std.specs.Prelude.{◌+◌, ℕ, Bool, ◌||◌, false, not, true, List, [], ◌++◌, ◌∷◌, ◌≡◌, refl, eqb, leb, ltb, length, replicate, if◌then◌else◌}
 use Rattle.std.proofs.Common.{◌∙◌, ap, ap₂, sym}
 use Rattle.std.proofs.Math.Path.{fun_ext}
 use Rattle.std.proofs.lemmas.List.{length-map}
@@ -14,7 +14,7 @@ use Rattle.rulebook.specs.declared.Stage.{Stage}
 use Rattle.rulebook.specs.declared.Stage.TheVariants.{Append, Copying, Exchange, FillCopy, FillNew, Getting, Idle, Paging, Put, Read, TakeCopy, TakeNew, Write}
 use Rattle.rulebook.specs.declared.Task.{Task}
 use Rattle.rulebook.specs.Machine.{Call, Get, LookCell, LookEntry, LookLog, LookTask, LookVersion, New, Open, Page, Release, Report, Set, Step, call, release}
-use Rattle.rulebook.specs.Sizes.{if◌then◌else◌, opens, room, slot_of}
+use Rattle.rulebook.specs.Sizes.{opens, room, slot_of}
 use Rattle.rulebook.specs.Starts.{Lie, begun, no_slot, opened, opening, reserve, start_get, start_new, start_page, start_set, startable}
 use Rattle.rulebook.specs.State.{Block, Result, State, block_at, cell_at, entry_at, free_block, free_slot, freed, hand_of, idle, in_use, list_to, live_handle, log_at, slot_at, task_at, with_block, with_cell, with_log, with_slot, with_task, with_version}
 use Rattle.rulebook.specs.Steps.{aimed, answer, appended, counted, exchanged, filled, finished, get_step, got_copy, got_get, got_page, guessed, here_of, kept, lowered, middle, moved, no_room, probed, searching, step, step_at, taken}

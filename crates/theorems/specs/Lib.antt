@@ -1,5 +1,4 @@
 pub mod Terms
-pub mod Demands
 pub mod Reading
 pub mod Invariant
 pub mod Prices

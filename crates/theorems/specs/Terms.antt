@@ -1,6 +1,6 @@
 -- The words of the demands: what a handle shows, what is right for a value, a page and a price, and when a store is valid.
 -- Rests on the rule book's definitions; nothing is proved here.
-use Rattle.std.specs.Prelude.{◌*◌, ◌+◌, ◌/◌, ◌<◌, ◌≤◌, min, suc, zero, ℕ, Bool, ◌&&◌, false, not, true, List, [], ◌∷◌, ◌≡◌, eqb, leb, ltb, length}
+use Rattle.std.specs.Prelude.{◌*◌, ◌+◌, ◌/◌, ◌<◌, ◌≤◌, min, suc, zero, ℕ, Bool, ◌&&◌, false, not, true, List, [], ◌∷◌, ◌≡◌, eqb, leb, ltb, length, if◌then◌else◌}
 use Rattle.rulebook.specs.declared.Entry.{Entry}
 use Rattle.rulebook.specs.declared.Stage.{Stage}
 use Rattle.rulebook.specs.declared.Stage.TheVariants.{Append, Copying, Exchange, FillCopy, FillNew, Getting, Idle, Paging, Put, Read, TakeCopy, TakeNew, Write}
@@ -9,7 +9,7 @@ use Rattle.rulebook.specs.Answers.{stage_code}
 use Rattle.rulebook.specs.Array.{Table, get_table}
 use Rattle.rulebook.specs.History.{Numbered, Past, Value, Work, making, next, one, paging, reading, resting, setting, table_of}
 use Rattle.rulebook.specs.Machine.{Call, Get, LookCell, LookEntry, LookLog, LookTask, LookVersion, New, Open, Page, Release, Report, Set, Step}
-use Rattle.rulebook.specs.Sizes.{if◌then◌else◌, opens, slot_of}
+use Rattle.rulebook.specs.Sizes.{opens, slot_of}
 use Rattle.rulebook.specs.Starts.{no_slot}
 use Rattle.rulebook.specs.State.{Block, State, block_at, busy, cell_at, entry_at, fills, held, idle, in_use, list_to, live_handle, log_at, names, reserves, slot_at, stood, task_at, writes}
 

@@ -1,6 +1,6 @@
 -- Blocks that are filled cell by cell, and a new handle on a block that has changed.
 -- Rests on Moves and Entries.
-use Rattle.std.specs.Prelude.{◌+◌, ◌<◌, ◌≤◌, ℕ, false, List, [], ◌≡◌, eqb, ltb, length}
+use Rattle.std.specs.Prelude.{◌+◌, ◌<◌, ◌≤◌, ℕ, false, List, [], ◌≡◌, eqb, ltb, length, if◌then◌else◌}
 use Rattle.std.proofs.Common.{zero-le, ◌∙◌, ap, subst, sym, not-suc-le-zero, arith, get_or-set_other, get_or-set_same, eqb-true, ltb-false, ltb-true}
 use Rattle.std.proofs.lemmas.Bool.{false≢true, eqb-false}
 use Rattle.std.proofs.Math.ListN.{get_or-eq_default}
@@ -12,7 +12,6 @@ use Rattle.rulebook.specs.declared.Slot.{Slot}
 use Rattle.rulebook.specs.declared.Stage.{Stage}
 use Rattle.rulebook.specs.declared.Status.TheVariants.{Free, Live, Reserved}
 use Rattle.rulebook.specs.declared.Task.{Task}
-use Rattle.rulebook.specs.Sizes.{if◌then◌else◌}
 use Rattle.rulebook.specs.State.{Block, fills, log_at, reserves, with_cell, with_log, writes}
 use Rattle.rulebook.specs.Tests.{by_test}
 use Rattle.theorems.specs.Invariant.Entries.{total_empty}

@@ -144,7 +144,7 @@ keeps-append n m i b h inside =
           (λ e. ap (λ (l : List Entry). value_in l n (get_or b.cells j 0)) (get_or-set_other b.logs i j (log_at b i ++ (entry m (get_or b.cells i 0) ∷ [])) [] (eqb-false j i e)));
       goes_on = λ r j w g. by_test (eqb j i)
           (λ e. subst (λ (l : List Entry). Good r l n w (value_in (log_at b j) n (get_or b.cells j 0)))
-          (sym (ap (get_d' j) (ap (λ (x : ℕ). new x) (sym (eqb-true j i e))) ∙ get_or-set_same b.logs j (log_at b j ++ (entry m (get_or b.cells j 0) ∷ [])) [] (subst (λ (x : ℕ). x < length b.logs) (sym (eqb-true j i e)) inside)))
+          (sym (ap (get_or' j) (ap (λ (x : ℕ). new x) (sym (eqb-true j i e))) ∙ get_or-set_same b.logs j (log_at b j ++ (entry m (get_or b.cells j 0) ∷ [])) [] (subst (λ (x : ℕ). x < length b.logs) (sym (eqb-true j i e)) inside)))
           (good-append r (log_at b j) n m (get_or b.cells j 0) (value_in (log_at b j) n (get_or b.cells j 0)) w h refl g))
           (λ e. subst (λ (l : List Entry). Good r l n w (value_in (log_at b j) n (get_or b.cells j 0))) (sym (get_or-set_other b.logs i j (log_at b i ++ (entry m (get_or b.cells i 0) ∷ [])) [] (eqb-false j i e))) g);
       grows = λ j. by_test (eqb j i)
@@ -156,8 +156,8 @@ keeps-append n m i b h inside =
     new : ℕ → List (List Entry)
     new x = set b.logs x (log_at b x ++ (entry m (get_or b.cells x 0) ∷ []))
 
-    get_d' : ℕ → List (List Entry) → List Entry
-    get_d' x l = get_or l x []
+    get_or' : ℕ → List (List Entry) → List Entry
+    get_or' x l = get_or l x []
 
 -- ---- what the other tasks need
 

@@ -1,6 +1,6 @@
 -- Every call keeps the notes right, and so every list of calls from an opened state has them.
 -- Rests on Step.
-use Rattle.std.specs.Prelude.{◌%◌, ◌+◌, ◌<◌, ◌≤◌, ℕ, Bool, ◌||◌, false, not, true, ◌≡◌, eqb, leb, get_or, set}
+use Rattle.std.specs.Prelude.{◌%◌, ◌+◌, ◌<◌, ◌≤◌, ℕ, Bool, ◌||◌, false, not, true, ◌≡◌, eqb, leb, get_or, set, if◌then◌else◌}
 use Rattle.std.proofs.lemmas.Bool.{false≢true, eqb-false, not-false}
 use mathlib.Core.List.{List, [], ◌∷◌}
 use Rattle.std.proofs.Common.{◌∙◌, ap₂, get_or-set_other, get_or-set_same, eqb-true, leb-false}
@@ -17,7 +17,7 @@ use Rattle.rulebook.specs.declared.Task.{Task}
 use Rattle.rulebook.specs.History.{IsOpened, Past, Value, Work, accepted, change, fresh, making, next, noted, onward, paging, past, reading, released, resting, sets_bound, setting, started, table_of}
 use Rattle.rulebook.specs.Lists.{any_replicate, any_set, replicate_get}
 use Rattle.rulebook.specs.Machine.{Call, Get, LookCell, LookEntry, LookLog, LookTask, LookVersion, New, Open, Page, Release, Report, Set, Step, call, look_cell, look_entry, look_log, look_task, look_version, release, report}
-use Rattle.rulebook.specs.Sizes.{if◌then◌else◌, opens, public_number}
+use Rattle.rulebook.specs.Sizes.{opens, public_number}
 use Rattle.rulebook.specs.Starts.{Lie, begun, no_slot, opened, opening, reserve, start_get, start_new, start_page, start_set, startable}
 use Rattle.rulebook.specs.State.{Result, State, block_at, busy, free_slot, freed, hand_of, idle, in_use, live_handle, names, slot_at, stood, task_at, with_slot, with_task}
 use Rattle.rulebook.specs.Steps.{here_of}

@@ -1,6 +1,6 @@
 -- A step keeps the notes right: all that was handed out and told, and the price of the sets.
 -- Rests on Stages and the prices.
-use Rattle.std.specs.Prelude.{◌%◌, ◌*◌, ◌+◌, ◌<◌, ◌≤◌, ℕ, ◌&&◌, false, not, List, ◌++◌, ◌≡◌, refl, eqb, leb, get_or, length}
+use Rattle.std.specs.Prelude.{◌%◌, ◌*◌, ◌+◌, ◌<◌, ◌≤◌, ℕ, ◌&&◌, false, not, List, ◌++◌, ◌≡◌, refl, eqb, leb, get_or, length, if◌then◌else◌}
 use Rattle.std.proofs.lemmas.Bool.{false≢true}
 use Rattle.std.proofs.Math.Bool.{true}
 use Rattle.std.proofs.Common.{true≢false, ◌∙◌, ap, subst, sym, mul-add, arith, leb-false}
@@ -11,7 +11,6 @@ use Rattle.rulebook.specs.declared.Task.{Task}
 use Rattle.rulebook.specs.Answers.{operation, word}
 use Rattle.rulebook.specs.History.{Ended, Past, Value, Work, accepted, ends, is_set, making, not_yet_set, noted, one, over, paging, reading, resting, sets_bound, setting, stepped, table_of, work_code}
 use Rattle.rulebook.specs.Machine.{Call, Step}
-use Rattle.rulebook.specs.Sizes.{if◌then◌else◌}
 use Rattle.rulebook.specs.State.{Result, State, busy, exchanges, slot_at, task_at}
 use Rattle.rulebook.specs.Steps.{counted, step, step_at}
 use Rattle.rulebook.specs.Tests.{by_test, if_case}

@@ -1,12 +1,11 @@
 -- The tables of the new handles: what a set or a new has made is the functional array's.
 -- Rests on the invariant.
-use Rattle.std.specs.Prelude.{◌+◌, ◌<◌, ℕ, List, ◌≡◌, refl, eqb, length}
+use Rattle.std.specs.Prelude.{◌+◌, ◌<◌, ℕ, List, ◌≡◌, refl, eqb, length, if◌then◌else◌}
 use Rattle.std.proofs.Common.{◌∙◌, sym, arith, get_or-set_other, get_or-set_same, eqb-true}
 use Rattle.std.proofs.Math.Path.{ap}
 use Rattle.std.proofs.lemmas.Bool.{eqb-false}
 use Rattle.rulebook.specs.declared.Entry.{Entry}
 use Rattle.rulebook.specs.declared.Stage.TheVariants.{FillNew, Put, Write}
-use Rattle.rulebook.specs.Sizes.{if◌then◌else◌}
 use Rattle.rulebook.specs.State.{Block, State, block_at, log_at, slot_at, task_at, with_cell, with_slot, with_task}
 use Rattle.rulebook.specs.Steps.{counted, filled, finished, here_of, step_at}
 use Rattle.rulebook.specs.Tests.{by_test}

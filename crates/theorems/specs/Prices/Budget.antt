@@ -1,6 +1,6 @@
 -- What the sets past their exchange may still spend, and what the blocks have saved: the potential of a state, and how one task and one block change it.
 -- Rests on Digits and the invariant.
-use Rattle.std.specs.Prelude.{◌*◌, ◌+◌, ◌-◌, ◌<◌, ◌≤◌, suc, zero, ℕ, true, List, [], ◌∷◌, ◌≡◌, refl, eqb, leb, get_or, length, set}
+use Rattle.std.specs.Prelude.{◌*◌, ◌+◌, ◌-◌, ◌<◌, ◌≤◌, suc, zero, ℕ, true, List, [], ◌∷◌, ◌≡◌, refl, eqb, leb, get_or, length, set, if◌then◌else◌}
 use Rattle.std.proofs.Common.{zero-le, ◌∙◌, ap, ap₂, subst, sym, not-suc-le-zero, arith, get_or-set_other, get_or-set_same, eqb-true}
 use Rattle.rulebook.specs.declared.Entry.{Entry}
 use Rattle.rulebook.specs.declared.Hand.{Hand}
@@ -12,7 +12,6 @@ use Rattle.rulebook.specs.declared.Stage.{Stage}
 use Rattle.rulebook.specs.declared.Stage.TheVariants.{Append, Copying, Exchange, FillCopy, FillNew, Getting, Idle, Paging, Put, Read, TakeCopy, TakeNew, Write}
 use Rattle.rulebook.specs.declared.Task.{Task}
 use Rattle.rulebook.specs.History.{one, probing}
-use Rattle.rulebook.specs.Sizes.{if◌then◌else◌}
 use Rattle.rulebook.specs.State.{Block, State, block_at, idle, log_at, names, no_block, stood, task_at}
 use Rattle.rulebook.specs.Steps.{get_step, here_of, probed}
 use Rattle.rulebook.specs.Tests.{by_test, if_case}

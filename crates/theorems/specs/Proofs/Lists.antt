@@ -9,6 +9,7 @@ use Rattle.rulebook.specs.Tests.{if_case}
 use Rattle.theorems.specs.Terms.{Every, In, by_cell, cells_of, here, insert, more, none, on_version, there, values_of}
 
 pub every_in : {A : Type 0} {P : A → Type 0} {x : A} {l : List A} → Every P l → In x l → P x
+every_in {A = A} {P = P} none x = elim x [ ]
 every_in (more p e) here = p
 every_in (more p e) (there q) = every_in e q
 

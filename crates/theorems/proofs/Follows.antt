@@ -19,7 +19,7 @@ use Rattle.theorems.specs.Invariant.Moves.{Goes, InvS}
 use Rattle.theorems.specs.Invariant.Shape.{Shape}
 use Rattle.theorems.specs.Invariant.Sizes.{sizes-get, sizes-new, sizes-page, sizes-set, sizes_step}
 use Rattle.theorems.specs.Invariant.Steps.{inv-step}
-use Rattle.theorems.specs.Proofs.Causes.{refused-same}
+use Rattle.theorems.proofs.Causes.{refused-same}
 use Rattle.theorems.specs.Proofs.Ten.{shown-same}
 use Rattle.theorems.specs.Terms.{shown}
 

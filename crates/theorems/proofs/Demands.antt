@@ -8,9 +8,9 @@ use Rattle.rulebook.specs.State.{State, busy, live_handle, task_at}
 use Rattle.rulebook.specs.Steps.{step}
 use Rattle.theorems.specs.Notes.Calls.{notes-past}
 use Rattle.theorems.specs.Notes.Step.{Notes}
-use Rattle.theorems.specs.Proofs.Causes.{fits-call}
-use Rattle.theorems.specs.Proofs.Follows.{kept_proof, store_proof}
-use Rattle.theorems.specs.Proofs.Progress.{not_spent, progress-on}
+use Rattle.theorems.proofs.Causes.{fits-call}
+use Rattle.theorems.proofs.Follows.{kept_proof, store_proof}
+use Rattle.theorems.proofs.Progress.{not_spent, progress-on}
 use Rattle.theorems.specs.Proofs.Reads.{join_any_proof, join_proof, numbers_proof, order_proof, price_proof, reads_proof, sets_proof, spent_proof, steps_proof, tables_proof}
 use Rattle.theorems.specs.Proofs.Ten.{ten_proof}
 use Rattle.theorems.specs.Proofs.Valid.{valid_proof}

@@ -24,7 +24,7 @@ use Rattle.rulebook.specs.Tests.{if_case}
 use Rattle.theorems.specs.Prices.Digits.{Less, get-less, left_of}
 use Rattle.theorems.specs.Reading.Get.{probed-cell}
 use Rattle.theorems.specs.Terms.{digits}
-use Rattle.rules.specs.Facts.{Doing, a_copy, a_get, a_page, doing_gets, doing_names, reserved-slot, rule_at, short-log, unsettled}
+use Rattle.rules.proofs.Facts.{Doing, a_copy, a_get, a_page, doing_gets, doing_names, reserved-slot, rule_at, short-log, unsettled}
 use Rattle.rules.specs.Paced.{Pace, Paced, SlotRange, TaskRange, copy_steps}
 use Rattle.rules.specs.Rules.{Rules}
 

@@ -1,6 +1,6 @@
 -- A started task ends within its price in steps of its own, whatever is called between them.
 -- Rests on the price of a busy task, and on no step of a busy task being refused but by 10.
-use Rattle.std.specs.Prelude.{◌+◌, ◌<◌, ◌≤◌, suc, ℕ, Bool, ◌&&◌, ◌||◌, false, List, [], ◌∷◌, ◌≡◌, eqb, leb, ltb}
+use Rattle.std.specs.Prelude.{◌+◌, ◌<◌, ◌≤◌, suc, ℕ, Bool, ◌&&◌, ◌||◌, false, List, [], ◌∷◌, ◌≡◌, eqb, leb, ltb, if◌then◌else◌}
 use Rattle.std.proofs.lemmas.Bool.{false≢true, eqb-false, lt-leb}
 use Rattle.std.proofs.Math.Bool.{true, true≢false}
 use Rattle.std.proofs.Common.{◌∙◌, sym, mul-le-mul_right, suc-mul, eqb-true, ltb-false, ltb-true}
@@ -17,7 +17,7 @@ use Rattle.rulebook.specs.Answers.{refusal, stage_code}
 use Rattle.rulebook.specs.History.{Past, Value, Work, accepted, change, fresh, making, next, noted, one, paging, reading, released, setting, started, stepped}
 use Rattle.rulebook.specs.Lists.{replicate_get}
 use Rattle.rulebook.specs.Machine.{Call, Get, LookCell, LookEntry, LookLog, LookTask, LookVersion, New, Open, Page, Release, Report, Set, Step, call, look_cell, look_entry, look_log, look_task, look_version, release, report}
-use Rattle.rulebook.specs.Sizes.{if◌then◌else◌, opens}
+use Rattle.rulebook.specs.Sizes.{opens}
 use Rattle.rulebook.specs.Starts.{Lie, opened, opening}
 use Rattle.rulebook.specs.State.{Block, Result, State, busy, idle, task_at}
 use Rattle.rulebook.specs.Steps.{step}
@@ -29,7 +29,7 @@ use Rattle.theorems.specs.Notes.Step.{Notes}
 use Rattle.theorems.specs.Notes.Told.{For, change-other, change-same}
 use Rattle.theorems.specs.Prices.Budget.{Within, copy_some}
 use Rattle.theorems.specs.Prices.Digits.{left-some, unsettled-good}
-use Rattle.theorems.specs.Proofs.Causes.{fits-call}
+use Rattle.theorems.proofs.Causes.{fits-call}
 use Rattle.theorems.specs.Terms.{Ends, causes, digits, due, full, is_step, later, now, price, steps_in}
 
 -- a step of a busy task is taken

@@ -23,7 +23,7 @@ use Rattle.theorems.specs.Reading.Get.{Good}
 use Rattle.theorems.specs.Terms.{Valid, entries, value_at}
 use Rattle.rules.specs.Blind.{erase_call_lem, erase-opened}
 use Rattle.rules.specs.Erase.{erase, erase-answer, erase_block_lem, erase-cell, erase_log_lem, erase-shape, erase_task_lem, erase_block, erase_call, erase_hand, erase_lie, erase_log, erase_task}
-use Rattle.rules.specs.Logs.{AtMost, InOne, Rising, Under, UnderBut, empty-log, erase-value, from-covered, from_erased, from-good, to-covered, to_erased, to-good}
+use Rattle.rules.proofs.Logs.{AtMost, InOne, Rising, Under, UnderBut, empty-log, erase-value, from-covered, from_erased, from-good, to-covered, to_erased, to-good}
 use Rattle.rules.specs.Rules.{Fills, Gets, Rules, TaskRule, ToAppend, Unspent}
 
 module _ (s : State) where

@@ -1,6 +1,6 @@
 -- Each refusal is given exactly when document 01's table says, in its order; each but 10 says its number and nothing else, and changes nothing.
 -- Rests on the machine's definitions alone.
-use Rattle.std.specs.Prelude.{◌+◌, ◌<◌, suc, zero, ℕ, Bool, ◌&&◌, ◌||◌, not, ◌≡◌, eqb, leb, length}
+use Rattle.std.specs.Prelude.{◌+◌, ◌<◌, suc, zero, ℕ, Bool, ◌&&◌, ◌||◌, not, ◌≡◌, eqb, leb, length, if◌then◌else◌}
 use Rattle.std.proofs.Common.{zero-le, ◌∙◌, not-suc-le-zero, arith, eqb-true, leb-false, leb-true}
 use Rattle.std.proofs.Math.Bool.{false, true}
 use mathlib.Core.List.{List, [], ◌∷◌}
@@ -20,7 +20,7 @@ use Rattle.rulebook.specs.Answers.{reading_code, refusal, stage_code, words}
 use Rattle.rulebook.specs.History.{accepted}
 use Rattle.rulebook.specs.Lists.{lowest-none}
 use Rattle.rulebook.specs.Machine.{Call, Get, LookCell, LookEntry, LookLog, LookTask, LookVersion, New, Open, Page, Release, Report, Set, Step, call, look_cell, look_entry, look_log, look_task, look_version, release, report}
-use Rattle.rulebook.specs.Sizes.{if◌then◌else◌, opens, room}
+use Rattle.rulebook.specs.Sizes.{opens, room}
 use Rattle.rulebook.specs.Starts.{opened, opening, start_get, start_new, start_page, start_set, startable}
 use Rattle.rulebook.specs.State.{Result, State, block_at, busy, free_block, held, log_at, stood, task_at}
 use Rattle.rulebook.specs.Steps.{counted, exchanged, finished, got_copy, got_get, got_page, here_of, no_room, step, step_at, taken}

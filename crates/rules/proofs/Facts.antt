@@ -18,7 +18,7 @@ use Rattle.theorems.specs.Prices.Budget.{log-entries}
 use Rattle.theorems.specs.Prices.Digits.{Unsettled}
 use Rattle.theorems.specs.Terms.{entries, version_at}
 use Rattle.rules.specs.Erase.{erase_task}
-use Rattle.rules.specs.Kept.{structure}
+use Rattle.rules.proofs.Kept.{structure}
 use Rattle.rules.specs.Rules.{Gets, InHand, Rules, TaskRule}
 
 -- a stage whose next step is r of a get: a get's, a page's or a copy's

@@ -18,10 +18,10 @@ use Rattle.rulebook.specs.State.{Result, State, free_slot, freed, idle, in_use, 
 use Rattle.rulebook.specs.Tests.{and_both, if_case, or_neither}
 use Rattle.theorems.specs.Invariant.Calls.{live_handle_lem}
 use Rattle.theorems.specs.Terms.{digits}
-use Rattle.rules.specs.Facts.{live_stood}
+use Rattle.rules.proofs.Facts.{live_stood}
 use Rattle.rules.specs.Paced.{Pace, Paced, SlotRange, TaskRange}
 use Rattle.rules.specs.Rules.{Rules}
-use Rattle.rules.specs.Steps.{idle-range, idle-within, paced-slot, paced-step, paced-task, slot-empty}
+use Rattle.rules.proofs.Steps.{idle-range, idle-within, paced-slot, paced-step, paced-task, slot-empty}
 
 -- ---- the starts
 

@@ -1,0 +1,4 @@
+pub mod Demands
+pub mod Causes
+pub mod Follows
+pub mod Progress
