@@ -1,10 +1,9 @@
 -- What the looks and the report answer, from what they see; 2 where a bad row or word is first read.
 -- Rests on Sight and Plans' searches.
-use Rattle.std.specs.Prelude.{◌+◌, suc, zero, ℕ, not, eqb, leb}
+use Rattle.std.specs.Prelude.{◌+◌, suc, zero, ℕ, not, eqb, leb, if◌then◌else◌}
 use Rattle.block.specs.declared.Looked.{Looked}
 use Rattle.block.specs.declared.Probed.{Probed}
 use Rattle.rulebook.specs.declared.Reply.{Reply}
-use Rattle.rulebook.specs.Sizes.{if◌then◌else◌}
 use Rattle.rulebook.specs.State.{is_live}
 use Rattle.acts.specs.Plans.{found_if, stander_in}
 use Rattle.acts.specs.Sight.{Sight}

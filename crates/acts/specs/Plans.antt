@@ -1,12 +1,12 @@
 -- What each start and a release do and answer, decided from what they see; 2 where a bad row is first read. The same text serves the words
 -- of a pool and the machine's state. Rests on Sight.
-use Rattle.std.specs.Prelude.{◌+◌, suc, zero, ℕ, Bool, ◌&&◌, ◌||◌, not, eqb, leb, ltb}
+use Rattle.std.specs.Prelude.{◌+◌, suc, zero, ℕ, Bool, ◌&&◌, ◌||◌, not, eqb, leb, ltb, if◌then◌else◌}
 use Rattle.rulebook.specs.declared.Reply.{Reply}
 use Rattle.rulebook.specs.declared.Sizes.{Sizes}
 use Rattle.rulebook.specs.declared.Slot.{Slot}
 use Rattle.rulebook.specs.declared.Stage.{Stage}
 use Rattle.rulebook.specs.declared.Task.{Task}
-use Rattle.rulebook.specs.Sizes.{if◌then◌else◌, last_serial, serial_of, slot_of}
+use Rattle.rulebook.specs.Sizes.{last_serial, serial_of, slot_of}
 use Rattle.rulebook.specs.State.{busy, fills, freed, hand_of, is_free, is_live, names}
 use Rattle.acts.specs.Sight.{Sight}
 use Rattle.acts.specs.declared.Act.{Act}

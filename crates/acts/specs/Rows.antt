@@ -125,9 +125,9 @@ module _ (x : SlotRow) (j : ℕ) where
   unfolding live_at
   live_bad e = rw e
 
-  pub live_row : (y : Slot) (p : Bool) (r : Found) → x ≡ slotrow.Row y → p ≡ is_live y.status → r ≡ found_if p j → r ≡ live_at x j
+  pub live_row_lem : (y : Slot) (p : Bool) (r : Found) → x ≡ slotrow.Row y → p ≡ is_live y.status → r ≡ found_if p j → r ≡ live_at x j
   unfolding live_at
-  live_row y p r e f g = g ∙ rw (e, f)
+  live_row_lem y p r e f g = g ∙ rw (e, f)
 
 -- ---- rows of tasks
 
@@ -182,4 +182,4 @@ pub last_serial_lem : (x : Slot) (b : Bool) → b ≡ ltb x.serial 16777215 → 
 unfolding last_serial
 last_serial_lem x b e = e
 
-pub ruleset rows = (and_yes, and_no, found-yes, found-no, unheld-bad, unheld_not, unheld-is, sum-bad, sum_more, sum_same, show-bad, show-word, show-none, show-entry, see_bad, see_row, report-bad, report-of, standing-bad, standing-row, vacant-bad, vacant-row, live_bad, live_row, naming-bad, naming-row, filler-bad, filler-row, plus-bad, plus-of, count-below, reports-bad, reports_of, last_serial_lem)
+pub ruleset rows = (and_yes, and_no, found-yes, found-no, unheld-bad, unheld_not, unheld-is, sum-bad, sum_more, sum_same, show-bad, show-word, show-none, show-entry, see_bad, see_row, report-bad, report-of, standing-bad, standing-row, vacant-bad, vacant-row, live_bad, live_row_lem, naming-bad, naming-row, filler-bad, filler-row, plus-bad, plus-of, count-below, reports-bad, reports_of, last_serial_lem)

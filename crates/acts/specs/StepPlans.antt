@@ -1,6 +1,6 @@
 -- What each step does and answers, decided from what it sees; 2 where a bad row or word is first read. The same text serves the words of a
 -- pool and the machine's state. Rests on Sight and Plans.
-use Rattle.std.specs.Prelude.{◌+◌, ℕ, eqb, leb, ltb}
+use Rattle.std.specs.Prelude.{◌+◌, ℕ, eqb, leb, ltb, if◌then◌else◌}
 use Rattle.block.specs.declared.Looked.{Looked}
 use Rattle.block.specs.declared.Probed.{Probed}
 use Rattle.rulebook.specs.declared.Entry.{Entry}
@@ -9,7 +9,7 @@ use Rattle.rulebook.specs.declared.Progress.{Progress}
 use Rattle.rulebook.specs.declared.Reading.{Reading}
 use Rattle.rulebook.specs.declared.Stage.{Stage}
 use Rattle.rulebook.specs.declared.Task.{Task}
-use Rattle.rulebook.specs.Sizes.{if◌then◌else◌, last_serial, public_number}
+use Rattle.rulebook.specs.Sizes.{last_serial, public_number}
 use Rattle.rulebook.specs.State.{freed, hand_of, idle}
 use Rattle.rulebook.specs.Steps.{aimed, answer, guessed, middle, moved, probed_at, searching}
 use Rattle.acts.specs.Sight.{Sight}

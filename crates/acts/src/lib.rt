@@ -1,4 +1,6 @@
 // What a call reads of a store and does to it, as values; and the rule book's changes of tasks, slots and the get in hand.
+#![tactic(auto)]
+
 pub mod reading;
 pub mod searches;
 pub mod starts;
@@ -8,27 +10,27 @@ pub mod words;
 use rulebook::{Entry, Progress, Reply, Slot, Stage, Task};
 
 // A row as it was read: it is bad, or it is a slot or a task.
-#[derive(Drop)]
+#[derive(Clone, Copy)]
 pub enum SlotRow {
     Bad,
     Row(Slot),
 }
 
-#[derive(Drop)]
+#[derive(Clone, Copy)]
 pub enum TaskRow {
     Bad,
     Row(Task),
 }
 
 // The stage whose code was read, or that there is none.
-#[derive(Drop)]
+#[derive(Clone, Copy)]
 pub enum StageRow {
     Bad,
     At(Stage),
 }
 
 // What a search of rows has come to: a bad row, a place, or nothing yet.
-#[derive(Drop)]
+#[derive(Clone, Copy)]
 pub enum Found {
     Bad,
     At(u32),
@@ -36,28 +38,28 @@ pub enum Found {
 }
 
 // What a count of rows has come to: a bad row, or a number.
-#[derive(Drop)]
+#[derive(Clone, Copy)]
 pub enum Counted {
     Bad,
     Of(u32),
 }
 
 // A live handle's slot, or the refusal.
-#[derive(Drop)]
+#[derive(Clone, Copy)]
 pub enum Live {
     Not(u32),
     On(Slot),
 }
 
 // A step of a get: a bad number was read, or it has got on.
-#[derive(Drop)]
+#[derive(Clone, Copy)]
 pub enum Read {
     Bad,
     Got(Progress),
 }
 
 // Who reads a cell by the steps of a get.
-#[derive(Drop)]
+#[derive(Clone, Copy)]
 pub enum Reader {
     Get,
     Copy,
@@ -65,7 +67,7 @@ pub enum Reader {
 }
 
 // An answer as C reads it: whether all its numbers are 0, the refusal number, and its numbers in their order.
-#[derive(Drop)]
+#[derive(Clone, Copy)]
 pub struct Said {
     pub silent: bool,
     pub refusal: u32,
@@ -80,7 +82,7 @@ pub struct Said {
 }
 
 // What is done to one block.
-#[derive(Drop)]
+#[derive(Clone, Copy)]
 pub enum Touch {
     Nothing,
     // block, L: V becomes L + 1
@@ -95,19 +97,19 @@ pub enum Touch {
     Fill(u32, u32, u32),
 }
 
-#[derive(Drop)]
+#[derive(Clone, Copy)]
 pub enum SlotChange {
     Same,
     To(u32, Slot),
 }
 
-#[derive(Drop)]
+#[derive(Clone, Copy)]
 pub enum TaskChange {
     Same,
     To(u32, Task),
 }
 
-#[derive(Drop)]
+#[derive(Clone, Copy)]
 pub struct Act {
     pub touch: Touch,
     pub slot: SlotChange,

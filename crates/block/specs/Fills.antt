@@ -10,7 +10,7 @@ use Rattle.block.specs.Words.{fill_in}
 use Rattle.block.specs.Sound.{view_of, block_of, Laid, Filling}
 use Rattle.block.specs.Sums.{sum-none}
 use Rattle.block.specs.Chunks.{space-most}
-use Rattle.block.specs.Stores.{lengths-left, head-low, cell-low, cell_not_head, length_not_low, length-apart, length_in}
+use Rattle.block.specs.Stores.{lengths-left, head-low, cell-low, cell_not_head, length_not_low, length-apart, length_in_lem}
 use Rattle.block.specs.Reads.{log_at_lem, log-none}
 use Rattle.block.specs.Writes.{set-sized, fill_is}
 
@@ -22,7 +22,7 @@ module _ {c n : ℕ} {w : List ℕ} (F : Filling c n w) (i v : ℕ) (h : i < n) 
   cell-sized = set-sized (cell_ix n i) v F.sized
 
   fill-own : length_of n (set cell_written (length_ix n i) 0) i ≡ 0
-  fill-own = get_or-set_same cell_written (length_ix n i) 0 0 (length_in cell-sized i h)
+  fill-own = get_or-set_same cell_written (length_ix n i) 0 0 (length_in_lem cell-sized i h)
 
   fill-other : (k : ℕ) → (k ≡ i → ⊥) → length_of n (set cell_written (length_ix n i) 0) k ≡ length_of n w k
   fill-other k d =

@@ -6,14 +6,12 @@ pub mod Sums
 pub mod Chunks
 pub mod Ways
 pub mod Rooms
-pub mod Plans
 pub mod Stores
 pub mod Growth
 pub mod Raw
 pub mod Reads
 pub mod Writes
 pub mod Fills
-pub mod Appends
 pub mod Marks
 pub mod Walk
 pub mod Rows

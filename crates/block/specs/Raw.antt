@@ -1,9 +1,9 @@
 -- What the check reads of a block's words, whatever they say: the version of an entry, and one law for each way out.
 -- Rests on Layout and Chunks.
-use Rattle.std.specs.Prelude.{◌<◌, ◌≤◌, ℕ, List, ◌≡◌, ltb, get_or, length}
+use Rattle.std.specs.Prelude.{◌<◌, ◌≤◌, ℕ, List, ◌≡◌, ltb, get_or, length, if◌then◌else◌}
 use native.Mathlib.Omega.{arith}
 use Rattle.std.proofs.Common.{le-ltb, lt-ltb}
-use Rattle.rulebook.specs.Sizes.{block_words, directory_width, if◌then◌else◌, most_cells}
+use Rattle.rulebook.specs.Sizes.{block_words, directory_width, most_cells}
 use Rattle.block.specs.Chunks.{chunk_lt}
 use Rattle.block.specs.Layout.{Reach, Sized, arena, entry_ix, entry_of, length_ix, length_of, place_of}
 

@@ -76,13 +76,13 @@ module _ (n : ℕ) where
 
 -- they lie in the block
 module _ {n : ℕ} {w : List ℕ} (s : Sized n w) where
-  pub cell_in : (i : ℕ) → i < n → cell_ix n i < length w
+  pub cell_in_lem : (i : ℕ) → i < n → cell_ix n i < length w
   unfolding block_words cell_ix
-  cell_in i h = let l = s.long in omega arith
+  cell_in_lem i h = let l = s.long in omega arith
 
-  pub length_in : (i : ℕ) → i < n → length_ix n i < length w
+  pub length_in_lem : (i : ℕ) → i < n → length_ix n i < length w
   unfolding block_words length_ix
-  length_in i h = let l = s.long in omega arith
+  length_in_lem i h = let l = s.long in omega arith
 
 -- ---- five stores
 
@@ -166,7 +166,7 @@ module _ {n : ℕ} {w : List ℕ} {i : ℕ} {s : Spot} (F : Inside n w i s) (v o
 
   pub stored-length : length_of n (stored n w i s v o) i ≡ s.length
   unfolding stored
-  stored-length = at_five w b s.base 1 s.bump e v (e + 1) o (length_ix n i) s.length (length_in F.sized i F.cell)
+  stored-length = at_five w b s.base 1 s.bump e v (e + 1) o (length_ix n i) s.length (length_in_lem F.sized i F.cell)
 
   pub stored-lengths : (k : ℕ) → k < n → (k ≡ i → ⊥) → length_of n (stored n w i s v o) k ≡ length_of n w k
   unfolding length_ix base_ix entry_ix directory_width

@@ -1,7 +1,6 @@
 -- What each function of the crate answers and leaves, for every content of the slice and every number.
 -- Rests on Layout.
-use Rattle.std.specs.Prelude.{ℕ, ◌+◌, Bool, true, false, List, set, ltb, leb, eqb}
-use Rattle.rulebook.specs.Sizes.{if◌then◌else◌}
+use Rattle.std.specs.Prelude.{ℕ, ◌+◌, Bool, true, false, List, set, ltb, leb, eqb, if◌then◌else◌}
 use Rattle.block.specs.declared.Looked.{Looked}
 use Rattle.block.specs.declared.Looked.TheVariants as looked
 use Rattle.block.specs.declared.Probed.{Probed}

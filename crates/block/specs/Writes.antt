@@ -17,7 +17,7 @@ use Rattle.block.specs.Layout.{cell_ix, length_ix, base_ix, version_of, cell_of,
 use Rattle.block.specs.Words.{exchange_in, write_in, take_in, fill_in, room_in, stored, append_at, append_in}
 use Rattle.block.specs.Sound.{View, view_of, log_of, block_of, Sound, Laid, Filling, Done}
 use Rattle.block.specs.Ways.{sized-block, block-cell, head_in}
-use Rattle.block.specs.Stores.{cells_left, lengths-left, places-left, entries-left, head-low, cell-low, cell_not_head, length-low, lengths-low, length_not_low, cell_apart, length-apart, cell_in, length_in}
+use Rattle.block.specs.Stores.{cells_left, lengths-left, places-left, entries-left, head-low, cell-low, cell_not_head, length-low, lengths-low, length_not_low, cell_apart, length-apart, cell_in_lem, length_in_lem}
 use Rattle.block.specs.Reads.{version_at_lem, log-none}
 
 -- ---- a store before the directory
@@ -75,7 +75,7 @@ module _ {n : ℕ} {w : List ℕ} (s : Sized n w) where
       block = λ t. record {
         version = get_or-set_other w (cell_ix n i) 0 a 0 (cell_not_head n i 0 (omega arith)) t;
         cells =
-            list_to-set 0 n i (cell_of n w) (cell_of n (set w (cell_ix n i) a)) a h (get_or-set_same w (cell_ix n i) a 0 (cell_in s i h))
+            list_to-set 0 n i (cell_of n w) (cell_of n (set w (cell_ix n i) a)) a h (get_or-set_same w (cell_ix n i) a 0 (cell_in_lem s i h))
             (λ k l d. get_or-set_other w (cell_ix n i) (cell_ix n k) a 0 (cell_apart n i k d)) t;
         logs = list_to n (λ (k : ℕ). logs-left n w (cell_ix n i) a (cell-low n i h) k t);
       };
@@ -90,7 +90,7 @@ module _ {n : ℕ} {w : List ℕ} (s : Sized n w) where
     cut-other x l = get_or-set_other w (length_ix n i) x 0 0 (length_not_low n i x l)
 
     cut-own : log_of (view_of n cut) i ≡ []
-    cut-own = log-none (view_of n cut) i (get_or-set_same w (length_ix n i) 0 0 (length_in s i h))
+    cut-own = log-none (view_of n cut) i (get_or-set_same w (length_ix n i) 0 0 (length_in_lem s i h))
 
     cut-logs : (k : ℕ) → k < n → (k ≡ i → ⊥) → log_of (view_of n cut) k ≡ log_of (view_of n w) k
     cut-logs k l d =

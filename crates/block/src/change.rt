@@ -9,7 +9,7 @@ use super::{
 };
 
 // What an append writes: the base of the entry's chunk, the bump, the entry's place in the arena, and the log's length.
-#[derive(Drop)]
+#[derive(Clone, Copy)]
 pub struct Spot {
     pub chunk: u32,
     pub base: u32,
@@ -19,7 +19,7 @@ pub struct Spot {
 }
 
 // Where an entry goes, or that there is no room.
-#[derive(Drop)]
+#[derive(Clone, Copy)]
 pub enum Room {
     At(Spot),
     Full,

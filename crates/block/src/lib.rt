@@ -1,5 +1,7 @@
 // One block's words, a lent part of the pool: V, the cells, and a log for each cell in chunks that double.
 // No public function asks anything of what the words say: a number outside the block or its layout is answered, and changes nothing. Those of raw ask for a block and a cell of it.
+#![tactic(auto)]
+
 mod change;
 mod raw;
 mod walk;
@@ -29,21 +31,21 @@ const CELLS: u32 = 4096;
 const PLACES: usize = 8192;
 
 // A word that was asked for, or that there is none.
-#[derive(Drop)]
+#[derive(Clone, Copy)]
 pub enum Looked {
     Word(u32),
     Bad,
 }
 
 // An entry that was asked for, or that there is none.
-#[derive(Drop)]
+#[derive(Clone, Copy)]
 pub enum Probed {
     Found(Entry),
     Bad,
 }
 
 // V was raised; V differs; or there is no such V to raise.
-#[derive(Drop)]
+#[derive(Clone, Copy)]
 pub enum Exchanged {
     Raised,
     Same,

@@ -5,7 +5,7 @@ ghost use Rattle.block.specs.Walk.{Decides, RowIn, RowOut};
 use super::{BUMP, PLACES, length_at, place, places, sized, space, wide};
 
 // A row of places, all inside and none marked before, and how many; or not.
-#[derive(Drop)]
+#[derive(Clone, Copy)]
 pub enum Row {
     Marked(u32),
     Broken,

@@ -1,6 +1,6 @@
 -- From a sight that shows a state every call plans what it plans from the state itself.
 -- Rests on Shown, and for a step on the rules and ranges of its task.
-use Rattle.std.specs.Prelude.{◌<◌, ℕ, not, true, ◌≡◌, ltb}
+use Rattle.std.specs.Prelude.{◌<◌, ℕ, not, true, ◌≡◌, ltb, if◌then◌else◌}
 use Rattle.std.proofs.Common.{◌∙◌, leb-false, ltb-true}
 use Rattle.std.proofs.Math.Path.{ap, ap₂, refl, subst⁻¹}
 use Rattle.std.proofs.Math.Dec.{eqb, leb}
@@ -20,11 +20,11 @@ use Rattle.rulebook.specs.declared.Task.{Task}
 use Rattle.acts.specs.Plans.{after, begun_on, filler, filler_in, fills_at, first_of, free_at, free_in, get_on, goes, holder_in, live_in, maker, names_at, naming, new_on, or_else, page_on, plan_get, plan_new, plan_page, plan_release, plan_set, ready_in, refused, release_at, release_on, reserves_for, set_at, set_on, stander_in, standing, stands_at, ticked, unheld, user_in, vacant, vacant_at, vacant_in}
 use Rattle.acts.specs.StepPlans.{copy_goes, fills_new, finishes, get_goes, gives_up, page_goes, plan_at, plan_row, plan_step, puts, read_entry, read_guess, read_in, read_length, read_version, reads_old, takes, writes_new}
 use Rattle.acts.specs.Sight.{Sight, sight_of}
-use Rattle.rulebook.specs.Sizes.{if◌then◌else◌, slot_of}
+use Rattle.rulebook.specs.Sizes.{slot_of}
 use Rattle.rulebook.specs.State.{State, free_slot, hand_of, names, stood, task_at}
 use Rattle.rulebook.specs.Steps.{moved}
 use Rattle.rulebook.specs.Tests.{by_test, if_case}
-use Rattle.rules.specs.Facts.{Doing, a_copy, a_get, a_page, doing_names, probes-inside}
+use Rattle.rules.proofs.Facts.{Doing, a_copy, a_get, a_page, doing_names, probes-inside}
 use Rattle.rules.specs.Paced.{Paced, TaskRange}
 use Rattle.rules.specs.Rules.{Rules}
 use Rattle.theorems.specs.Invariant.Facts.{stood_by}

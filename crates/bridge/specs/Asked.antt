@@ -1,13 +1,13 @@
 -- What is asked of a pool: every call, as numbers; what it does to the words and answers; and the machine's call that it stands for.
 -- Rests on layout's definition of each call and on the machine. Nothing is proved here.
-use Rattle.std.specs.Prelude.{ℕ, List, [], ◌∷◌, ◌≡◌, length}
+use Rattle.std.specs.Prelude.{ℕ, List, [], ◌∷◌, ◌≡◌, length, if◌then◌else◌}
 use Rattle.rulebook.specs.declared.Reply.{Reply}
 use Rattle.rulebook.specs.declared.Sizes.{Sizes}
 use Rattle.layout.specs.Calls.{look_cell_in, look_entry_in, look_log_in, look_task_in, look_version_in, release_in, report_in, start_get_in, start_new_in, start_page_in, start_set_in, step_in}
 use Rattle.layout.specs.Header.{sizes_of}
 use Rattle.layout.specs.Pool.{lie_of, open_in, view_of}
 use Rattle.rulebook.specs.Machine.{Call}
-use Rattle.rulebook.specs.Sizes.{if◌then◌else◌, opens}
+use Rattle.rulebook.specs.Sizes.{opens}
 use Rattle.rulebook.specs.State.{State}
 use Rattle.bridge.specs.Sound.{Sound}
 use Rattle.rulebook.specs.Machine as machine

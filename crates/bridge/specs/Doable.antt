@@ -29,9 +29,9 @@ use Rattle.rulebook.specs.Lists.{any_set}
 use Rattle.rulebook.specs.Machine.{Call, call}
 use Rattle.rulebook.specs.State.{Result, State, any, fills, idle, is_live, stood, task_at, with_block, with_slot, with_task}
 use Rattle.rulebook.specs.Tests.{and_both, by_test}
-use Rattle.rules.specs.Calls.{paced-call}
-use Rattle.rules.specs.Facts.{filled-block}
-use Rattle.rules.specs.Kept.{rules-call}
+use Rattle.rules.proofs.Calls.{paced-call}
+use Rattle.rules.proofs.Facts.{filled-block}
+use Rattle.rules.proofs.Kept.{rules-call}
 use Rattle.rules.specs.Paced.{Paced}
 use Rattle.rules.specs.Rules.{Rules}
 use Rattle.bridge.specs.Asked.{Bridged}

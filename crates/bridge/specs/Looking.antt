@@ -1,6 +1,6 @@
 -- From a sight that shows a state, the pool's or the state's own, the looks and the report answer what the machine's do.
 -- Rests on Alike and on rule 2: a live handle stands on a block that is there.
-use Rattle.std.specs.Prelude.{◌+◌, ◌<◌, suc, zero, ℕ, Bool, ◌&&◌, ◌||◌, false, true, List, [], ◌∷◌, ◌≡◌, refl, eqb, get_or}
+use Rattle.std.specs.Prelude.{◌+◌, ◌<◌, suc, zero, ℕ, Bool, ◌&&◌, ◌||◌, false, true, List, [], ◌∷◌, ◌≡◌, refl, eqb, get_or, if◌then◌else◌}
 use Rattle.std.proofs.lemmas.Bool.{false≢true}
 use Rattle.std.proofs.Math.Bool.{not}
 use Rattle.std.proofs.Common.{true≢false, ◌∙◌, arith}
@@ -24,7 +24,6 @@ use Rattle.layout.specs.Header.{header_of}
 use Rattle.layout.specs.Pool.{sight, view_of}
 use Rattle.rulebook.specs.History.{one}
 use Rattle.rulebook.specs.Machine.{look_cell, look_entry, look_log, look_task, look_version, report}
-use Rattle.rulebook.specs.Sizes.{if◌then◌else◌}
 use Rattle.rulebook.specs.State.{State, any, block_at, count, freed, is_live, log_at, slot_at, stood}
 use Rattle.rulebook.specs.Tests.{and_both, by_test}
 use Rattle.rules.specs.Rules.{Rules}

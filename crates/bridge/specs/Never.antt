@@ -1,6 +1,6 @@
 -- The machine refuses with neither 1 nor 2, so on a sound pool no call does: 2 is given only where the check says no.
 -- Rests on the machine's definitions and on Bridge.
-use Rattle.std.specs.Prelude.{◌+◌, ℕ, ◌||◌, false, not, List, ◌≡◌, eqb, leb, ltb, length}
+use Rattle.std.specs.Prelude.{◌+◌, ℕ, ◌||◌, false, not, List, ◌≡◌, eqb, leb, ltb, length, if◌then◌else◌}
 use Rattle.std.proofs.Common.{true≢false, ◌∙◌, ap, sym}
 use Rattle.std.proofs.Math.Path.{refl}
 use Rattle.rulebook.specs.declared.Progress.{Progress}
@@ -11,7 +11,7 @@ use Rattle.rulebook.specs.declared.Task.{Task}
 use Rattle.layout.specs.Pool.{view_of}
 use Rattle.rulebook.specs.Answers.{refusal}
 use Rattle.rulebook.specs.Machine.{Call, call, look_cell, look_entry, look_log, look_task, look_version, release, report}
-use Rattle.rulebook.specs.Sizes.{if◌then◌else◌, opens, slot_of, within}
+use Rattle.rulebook.specs.Sizes.{opens, slot_of, within}
 use Rattle.rulebook.specs.Starts.{no_slot, opening, start_get, start_new, start_page, start_set, startable}
 use Rattle.rulebook.specs.State.{Result, State, block_at, busy, free_block, in_use, live_handle, log_at, stood, task_at}
 use Rattle.rulebook.specs.Steps.{counted, exchanged, finished, got_copy, got_get, got_page, here_of, no_room, step, step_at, taken}

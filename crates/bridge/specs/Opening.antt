@@ -1,6 +1,6 @@
 -- An accepted open leaves a sound pool, which shows the machine's opened state; whatever the words were before.
 -- Rests on layout's laws of open and on the rules of an opened state.
-use Rattle.std.specs.Prelude.{◌<◌, ℕ, ◌&&◌, false, true, List, ◌≡◌, get_or, length}
+use Rattle.std.specs.Prelude.{◌<◌, ℕ, ◌&&◌, false, true, List, ◌≡◌, get_or, length, if◌then◌else◌}
 use Rattle.std.proofs.Common.{true≢false, ◌∙◌, ap, sym, arith}
 use Rattle.std.proofs.Math.Path.{refl, subst⁻¹}
 use Rattle.std.proofs.Math.Dec.{eqb}
@@ -10,17 +10,17 @@ use Rattle.rulebook.specs.declared.Task.{Task}
 use Rattle.layout.specs.Codes.{code_of, stage_from, stage_of}
 use Rattle.layout.specs.Header.{sizes_of}
 use Rattle.layout.specs.Opened.{open-header, open_not, open-reply, open_rows, open_view}
-use Rattle.layout.specs.Parts.{get_d_part}
+use Rattle.layout.specs.Parts.{get_or-part}
 use Rattle.layout.specs.Places.{slot_part, task_part}
 use Rattle.layout.specs.Pool.{lie_of, open_in, view_of}
 use Rattle.layout.specs.Rows.{task_read}
 use Rattle.rulebook.specs.Lists.{any_replicate, replicate_get}
-use Rattle.rulebook.specs.Sizes.{control_words, if◌then◌else◌, opens}
+use Rattle.rulebook.specs.Sizes.{control_words, opens}
 use Rattle.rulebook.specs.Starts.{Lie, opened, opening}
 use Rattle.rulebook.specs.State.{State, fills, freed, idle, is_live, stood, task_at}
 use Rattle.rulebook.specs.Tests.{by_test}
-use Rattle.rules.specs.Calls.{paced-opened}
-use Rattle.rules.specs.Kept.{rules-opened}
+use Rattle.rules.proofs.Calls.{paced-opened}
+use Rattle.rules.proofs.Kept.{rules-opened}
 use Rattle.rules.specs.Paced.{Paced}
 use Rattle.rules.specs.Rules.{Rules}
 use Rattle.bridge.specs.Asked.{Bridged}
@@ -38,11 +38,11 @@ module _ (p : List ℕ) (n h t : ℕ) (o : opens n h t (length p) ≡ true) wher
 
   slot-word : (j : ℕ) → j < h → get_or (slot_part q j) 1 0 ≡ 0
   unfolding slot_part control_words
-  slot-word j l = get_d_part q _ _ 1 (omega arith) ∙ open_rows p n h t o _ (omega arith) (omega arith)
+  slot-word j l = get_or-part q _ _ 1 (omega arith) ∙ open_rows p n h t o _ (omega arith) (omega arith)
 
   task-word : (j : ℕ) → j < t → get_or (task_part q d j) 0 0 ≡ 0
   unfolding task_part control_words
-  task-word j l = get_d_part q _ _ 0 (omega arith) ∙ open_rows p n h t o _ (omega arith) (omega arith)
+  task-word j l = get_or-part q _ _ 0 (omega arith) ∙ open_rows p n h t o _ (omega arith) (omega arith)
 
   code-zero : (w : List ℕ) → get_or w 0 0 ≡ 0 → code_of (task_read w).stage ≡ get_or w 0 0
   unfolding task_read stage_from stage_of code_of

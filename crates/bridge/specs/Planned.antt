@@ -1,6 +1,6 @@
 -- On the machine's state, what a call plans is what the machine does: doing the plan gives the machine's next state and answer.
 -- Rests on Searches and on the store's shape; PlannedStep has the step.
-use Rattle.std.specs.Prelude.{◌+◌, ℕ, Bool, ◌&&◌, ◌||◌, ◌≡◌}
+use Rattle.std.specs.Prelude.{◌+◌, ℕ, Bool, ◌&&◌, ◌||◌, ◌≡◌, if◌then◌else◌}
 use Rattle.std.proofs.Math.Bool.{false, not, true}
 use Rattle.std.proofs.lemmas.Bool.{false≢true}
 use Rattle.std.proofs.Common.{true≢false, ◌∙◌}
@@ -17,11 +17,11 @@ use Rattle.acts.specs.Plans.{filler, filler_in, fills_at, first_of, found_if, fr
 use Rattle.acts.specs.Rows.{is_none}
 use Rattle.acts.specs.Sight.{sight_of}
 use Rattle.rulebook.specs.Machine.{release}
-use Rattle.rulebook.specs.Sizes.{if◌then◌else◌, last_serial, serial_of, slot_of}
+use Rattle.rulebook.specs.Sizes.{last_serial, serial_of, slot_of}
 use Rattle.rulebook.specs.Starts.{begun, no_slot, reserve, start_get, start_new, start_page, start_set, startable}
 use Rattle.rulebook.specs.State.{Result, State, filling, fills, free_block, free_slot, freed, held, idle, in_use, is_free, is_live, live_handle, names, slot_at, stood, task_at, with_slot, with_task}
 use Rattle.rulebook.specs.Tests.{and_both, by_test}
-use Rattle.rules.specs.Facts.{live_stood}
+use Rattle.rules.proofs.Facts.{live_stood}
 use Rattle.rules.specs.Rules.{Rules}
 use Rattle.theorems.specs.Invariant.Calls.{is_live_lem}
 use Rattle.theorems.specs.Invariant.Shape.{Shape}

@@ -1,7 +1,7 @@
 -- What the searches of rows find on the machine's state: the rule book's any and lowest.
 -- Rests on acts' definitions.
 use Prim.Native.Nat.{◌+◌, ◌<◌, ◌≤◌, suc, zero, ℕ}
-use Rattle.std.specs.Prelude.{Bool, false, not, true, ◌≡◌, ltb, get_or, length}
+use Rattle.std.specs.Prelude.{Bool, false, not, true, ◌≡◌, ltb, get_or, length, if◌then◌else◌}
 use Rattle.std.proofs.lemmas.Bool.{false≢true}
 use Rattle.std.proofs.Common.{true≢false, ◌∙◌, ap₂, sym, arith, le-ltb, lt-ltb, ltb-false, ltb-true}
 use mathlib.Core.List.{List, [], ◌∷◌}
@@ -9,7 +9,6 @@ use Rattle.std.proofs.Math.Path.{ap, refl}
 use Rattle.acts.specs.declared.Found.{Found}
 use Rattle.acts.specs.Plans.{first_of, found_if, or_else}
 use Rattle.acts.specs.Rows.{is_none}
-use Rattle.rulebook.specs.Sizes.{if◌then◌else◌}
 use Rattle.rulebook.specs.State.{any, lowest}
 use Rattle.rulebook.specs.Tests.{by_test, if_case}
 use Rattle.acts.specs.declared.Found.TheVariants as found

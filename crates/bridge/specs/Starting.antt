@@ -1,6 +1,6 @@
 -- Every start and release on a sound pool does the machine's, and leaves the pool sound.
 -- Rests on Alike, Planned and Doable.
-use Rattle.std.specs.Prelude.{◌+◌, ◌<◌, ℕ, ◌&&◌, ◌||◌, false, not, true, List}
+use Rattle.std.specs.Prelude.{◌+◌, ◌<◌, ℕ, ◌&&◌, ◌||◌, false, not, true, List, if◌then◌else◌}
 use Rattle.std.proofs.lemmas.Bool.{false≢true}
 use Rattle.std.proofs.Common.{true≢false, ◌∙◌, sym, arith}
 use Rattle.std.proofs.Math.Path.{◌≡◌, refl, subst⁻¹}
@@ -23,7 +23,7 @@ use Rattle.layout.specs.Calls.{called_in, release_in, start_get_in, start_new_in
 use Rattle.layout.specs.Header.{header_of}
 use Rattle.layout.specs.Pool.{applied_in, sight, slot_near, task_near, touch_near, touched_in, touched_near, view_of}
 use Rattle.rulebook.specs.Machine.{Call, Get, New, Page, Release, Set, call, release}
-use Rattle.rulebook.specs.Sizes.{if◌then◌else◌, serial_of, slot_of}
+use Rattle.rulebook.specs.Sizes.{serial_of, slot_of}
 use Rattle.rulebook.specs.Starts.{start_get, start_new, start_page, start_set}
 use Rattle.rulebook.specs.State.{State, fills, is_live, slot_at}
 use Rattle.rulebook.specs.Tests.{by_test, if_case}

@@ -22,7 +22,7 @@ use Rattle.rulebook.specs.Machine.{Step, call}
 use Rattle.rulebook.specs.State.{State, block_at, fills, free_block, idle, names, task_at}
 use Rattle.rulebook.specs.Steps.{answer, moved, step}
 use Rattle.rulebook.specs.Tests.{if_case}
-use Rattle.rules.specs.Facts.{a_copy, a_get, a_page, append-fits, doing_gets, reserved-slot, unsettled}
+use Rattle.rules.proofs.Facts.{a_copy, a_get, a_page, append-fits, doing_gets, reserved-slot, unsettled}
 use Rattle.rules.specs.Paced.{TaskRange, paced-small}
 use Rattle.bridge.specs.Alike.{step-alike}
 use Rattle.bridge.specs.Asked.{Bridged}

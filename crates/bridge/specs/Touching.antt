@@ -9,7 +9,7 @@ use native.Mathlib.Omega.{arith}
 use Rattle.acts.specs.declared.Touch.{Touch}
 use Rattle.rulebook.specs.declared.Entry.{Entry}
 use Rattle.rulebook.specs.declared.Sizes.{Sizes}
-use Rattle.block.specs.Appends.{append-done}
+use Rattle.block.proofs.Appends.{append-done}
 use Rattle.block.specs.Layout.{Sized}
 use Rattle.block.specs.Sound.{Filling, Laid, block_of, entries_in}
 use Rattle.block.specs.Words.{append_in, exchange_in, fill_in, take_in, write_in}

@@ -27,7 +27,7 @@ use Rattle.rulebook.specs.Sizes.{last_serial}
 use Rattle.rulebook.specs.State.{State, fills, free_block, hand_of, idle, names, slot_at, stood, task_at}
 use Rattle.rulebook.specs.Steps.{aimed, moved}
 use Rattle.rulebook.specs.Tests.{by_test, if_case}
-use Rattle.rules.specs.Facts.{filled-block}
+use Rattle.rules.proofs.Facts.{filled-block}
 use Rattle.rules.specs.Paced.{TaskRange}
 use Rattle.theorems.specs.Invariant.Facts.{no-filler, no-stander, not_held}
 use Rattle.bridge.specs.Alike.{named-on}

@@ -17,8 +17,8 @@ use Rattle.block.specs.Sound.{block_of, entries_in, Laid}
 use Rattle.block.specs.Ways.{cell-block}
 use Rattle.block.specs.Reads.{version_at_lem}
 use Rattle.block.specs.Writes.{append-long, exchange_first, exchange-long, fill_done, fill-long, take_done, take_long, write_done, write-long}
-use Rattle.block.specs.Appends.{append-done}
-use Rattle.block.specs.Plans.{room_planned}
+use Rattle.block.proofs.Appends.{append-done}
+use Rattle.block.proofs.Plans.{room_planned}
 use Rattle.block.specs.declared.change.Room.{Room}
 use Rattle.block.specs.declared.change.Room.TheVariants as room
 use Rattle.acts.specs.Plans.{answers}

@@ -1,7 +1,7 @@
 -- What words 0 to 5 say: the sizes of a store, where they describe the pool.
 -- Rests on the rule book's sizes.
-use Rattle.std.specs.Prelude.{ℕ, Bool, ◌&&◌, List, [], ◌∷◌, length, get_or, leb, eqb}
-use Rattle.rulebook.specs.Sizes.{if◌then◌else◌, most_cells, most_handles, most_tasks, header_words, room, within, opens}
+use Rattle.std.specs.Prelude.{ℕ, Bool, ◌&&◌, List, [], ◌∷◌, length, get_or, leb, eqb, if◌then◌else◌}
+use Rattle.rulebook.specs.Sizes.{most_cells, most_handles, most_tasks, header_words, room, within, opens}
 use Rattle.rulebook.specs.declared.Sizes.{Sizes}
 use Rattle.layout.specs.declared.Header.{Header}
 use Rattle.layout.specs.declared.Header.TheVariants as header

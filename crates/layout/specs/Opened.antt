@@ -16,7 +16,7 @@ use Rattle.rulebook.specs.declared.Sizes.{Sizes}
 use Rattle.rulebook.specs.declared.Reply.TheVariants as reply
 use Rattle.block.specs.Sound.{block_of}
 use Rattle.layout.specs.declared.Header.TheVariants as header
-use Rattle.layout.specs.Parts.{part, splice, Fitting, length_part, get_d_part, splice-length, splice-after, splice-part, part-after}
+use Rattle.layout.specs.Parts.{part, splice, Fitting, length_part, get_or-part, splice-length, splice-after, splice-part, part-after}
 use Rattle.layout.specs.Rows.{slot_read, task_read}
 use Rattle.layout.specs.Places.{slot_part, task_part, block_part}
 use Rattle.layout.specs.Header.{header_fields, headed, sizes_of, sizes_in, header_of}
@@ -67,7 +67,7 @@ module _ (p : List ℕ) (n h t : ℕ) (o : opens n h t (length p) ≡ true) wher
 
   word : (i : ℕ) → i < control_words h t → get_or after i 0 ≡ get_or (control_of n h t (length p)) i 0
   word i l =
-      ap (λ (x : ℕ). get_or after x 0) (let e : i ≡ 0 + i = omega arith in e) ∙ sym (get_d_part after 0 (control_words h t) i (omega arith))
+      ap (λ (x : ℕ). get_or after x 0) (let e : i ≡ 0 + i = omega arith in e) ∙ sym (get_or-part after 0 (control_words h t) i (omega arith))
       ∙ ap (λ (w : List ℕ). get_or w i 0) (splice-part p _ _ _ fitting)
 
   head-word : (i : ℕ) → i < header_fields → get_or after i 0 ≡ get_or (headed n h t (length p)) i 0
@@ -87,7 +87,7 @@ module _ (p : List ℕ) (n h t : ℕ) (o : opens n h t (length p) ≡ true) wher
       let g = after-long in
       let l = length_part after s e b (omega arith) in
       by_test (ltb i (e - s))
-      (λ q. (let y = ltb-true i (e - s) q in get_d_part after s e i y ∙ zero_word (s + i) (omega arith) (omega arith)))
+      (λ q. (let y = ltb-true i (e - s) q in get_or-part after s e i y ∙ zero_word (s + i) (omega arith) (omega arith)))
       (λ q. (let y = ltb-false i (e - s) q in get_or-eq_default (part after s e) 0 (omega arith)))
 
   after-header : header_of after ≡ header.Good d

@@ -32,9 +32,9 @@ pub length_part : (p : List ℕ) (s e : ℕ) → s ≤ e → e ≤ length p → 
 unfolding part
 length_part p s e a b = simp (length-take, length-drop) (omega arith)
 
-pub get_d_part : (p : List ℕ) (s e i : ℕ) → i < e - s → get_or (part p s e) i 0 ≡ get_or p (s + i) 0
+pub get_or-part : (p : List ℕ) (s e i : ℕ) → i < e - s → get_or (part p s e) i 0 ≡ get_or p (s + i) 0
 unfolding part
-get_d_part p s e i h = rw (get_or-take, get_or-drop)
+get_or-part p s e i h = rw (get_or-take, get_or-drop)
 
 -- what is read of a part, beyond its end too, where the list is as another one from its start on
 pub part_same : (p q : List ℕ) (s e : ℕ) → s ≤ e → e ≤ length p → e ≤ length q → ((i : ℕ) → s ≤ i → i < e → get_or p i 0 ≡ get_or q i 0)
@@ -43,7 +43,7 @@ part_same p q s e h a b same =
     let l = length_part p s e h a in
     let m = length_part q s e h b in
     ext_get_or 0 _ _ (omega arith)
-    (λ i w. get_d_part p s e i (omega arith) ∙ same (s + i) (omega arith) (omega arith) ∙ sym (get_d_part q s e i (omega arith)))
+    (λ i w. get_or-part p s e i (omega arith) ∙ same (s + i) (omega arith) (omega arith) ∙ sym (get_or-part q s e i (omega arith)))
 
 -- what was there, put there
 pub splice-same : (p : List ℕ) (s e : ℕ) → splice p s e (part p s e) ≡ p

@@ -1,7 +1,7 @@
 -- What the words of a pool show, and what each function does to them, for every content.
 -- Rests on Rows, Places, Header, and on the block's definitions.
-use Rattle.std.specs.Prelude.{ℕ, ◌-◌, ◌≡◌, Bool, true, false, List, ◌++◌, length, drop, replicate, ltb}
-use Rattle.rulebook.specs.Sizes.{if◌then◌else◌, header_words, handle_row, task_row, control_words, block_words}
+use Rattle.std.specs.Prelude.{ℕ, ◌-◌, ◌≡◌, Bool, true, false, List, ◌++◌, length, drop, replicate, ltb, if◌then◌else◌}
+use Rattle.rulebook.specs.Sizes.{header_words, handle_row, task_row, control_words, block_words}
 use Rattle.rulebook.specs.State.{State, list_to}
 use Rattle.rulebook.specs.Starts.{Lie}
 use Rattle.rulebook.specs.declared.Sizes.{Sizes}

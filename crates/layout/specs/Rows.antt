@@ -1,7 +1,7 @@
 -- The words of a handle row and of a task row; what a call sees of them, and the ranges that the check tests.
 -- Rests on Codes.
-use Rattle.std.specs.Prelude.{ℕ, ◌≤◌, ◌<◌, Bool, true, false, not, ◌&&◌, List, [], ◌∷◌, get_or, ltb, leb, eqb}
-use Rattle.rulebook.specs.Sizes.{if◌then◌else◌, last_serial}
+use Rattle.std.specs.Prelude.{ℕ, ◌≤◌, ◌<◌, Bool, true, false, not, ◌&&◌, List, [], ◌∷◌, get_or, ltb, leb, eqb, if◌then◌else◌}
+use Rattle.rulebook.specs.Sizes.{last_serial}
 use Rattle.rulebook.specs.declared.Sizes.{Sizes}
 use Rattle.rulebook.specs.declared.Stage.{Stage}
 use Rattle.rulebook.specs.declared.Slot.{Slot}

@@ -9,7 +9,7 @@ use block::{Exchanged, Looked, Probed};
 use rulebook::{Entry, Sizes};
 
 // The words from start to end.
-#[derive(Drop)]
+#[derive(Clone, Copy)]
 pub struct Extent {
     pub start: usize,
     pub end: usize,

@@ -1,4 +1,6 @@
 // The lent words of a store: what the header says, where rows and blocks lie, and what writes them.
+#![tactic(auto)]
+
 mod blocks;
 mod codes;
 mod headers;

@@ -1,5 +1,5 @@
 use lib.ListN.{length-set}
-use Rattle.block.specs.Plans.{appends}
+use Rattle.block.proofs.Plans.{appends}
 use borrow.Author.Rules.{rules}
 use Rattle.block.proofs.change.append.Statement.{statement}
 use Rattle.block.proofs.change.append.Tie as tie

@@ -16,6 +16,6 @@ exchange_spec =
     (λ c. search (rules, exchanges))
     (λ c. search (rules, exchanges))
     (λ c. search (rules, exchanges))
-    (λ c. first_in _ _ _ c.before.before.before.before.sized.ensures c.before.before.before.if1.false)
+    (λ c. first_in _ _ _ c.sized.ensures c.if-not-sized.false-raw)
     (λ c. search (rules, exchanges))
     (λ c. search (rules, exchanges)))

@@ -5,10 +5,10 @@ use Rattle.block.specs.Rows.{starts, rows_in, rows_broken, rows_few-more, rows_s
 use Rattle.block.proofs.walk.laid.Statement.{statement}
 use Rattle.block.proofs.walk.laid.Tie as tie
 
-abbrev Inv : tie.invariant_loop
+abbrev Inv : tie.invariant-loop-i
 Inv b n bump marks₀ taken₀ i₀ marks taken i = RowsAt n b bump marks taken i
 
-abbrev μ : tie.decreases_loop
+abbrev μ : tie.decreases-loop-i
 μ b n bump marks₀ taken₀ i₀ marks taken i = n - i
 
 pub laid_spec : {M : Type 1} → statement M

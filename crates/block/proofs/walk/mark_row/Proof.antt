@@ -7,10 +7,10 @@ use Rattle.block.specs.Rows.{row-long, row-start, row-reach, row-outside, row_tw
 use Rattle.block.proofs.walk.mark_row.Statement.{statement}
 use Rattle.block.proofs.walk.mark_row.Tie as tie
 
-abbrev Inv : tie.invariant_loop
+abbrev Inv : tie.invariant-loop-j
 Inv b n limit i marks₀ at m all j₀ marks j = RowAt n b limit i m all marks j × (length marks ≡ length marks₀)
 
-abbrev μ : tie.decreases_loop
+abbrev μ : tie.decreases-loop-j
 μ b n limit i marks₀ at m all j₀ marks j = all - j
 
 pub mark_row_spec : {M : Type 1} → statement M

@@ -5,10 +5,10 @@ use borrow.Author.Rules.{rules}
 use Rattle.pool.proofs.opening.clear.Statement.{statement}
 use Rattle.pool.proofs.opening.clear.Tie as tie
 
-abbrev Inv : tie.invariant_loop
+abbrev Inv : tie.invariant-loop-i
 Inv part₀ i₀ part i = Cleared part₀ part i
 
-abbrev μ : tie.decreases_loop
+abbrev μ : tie.decreases-loop-i
 μ part₀ i₀ part i = length part₀ - i
 
 pub clear_spec : {M : Type 1} → statement M

@@ -1,6 +1,6 @@
 -- An append to a sound block with fewer than n entries is done: it is the machine's, and leaves the block sound.
 -- Rests on Plans, Stores, Growth and Writes.
-use Rattle.std.specs.Prelude.{ℕ, ◌+◌, ◌*◌, ◌^◌, ◌≤◌, ◌<◌, ◌≡◌, refl, true, length, get_or, eqb}
+use Rattle.std.specs.Prelude.{ℕ, ◌+◌, ◌*◌, ◌^◌, ◌≤◌, ◌<◌, ◌≡◌, refl, true, get_or, eqb}
 use Rattle.std.proofs.Common.{sym, ap, ap₂, ◌∙◌, inl, inr, ⊎_elim, arith}
 use mathlib.Core.List.{List, [], ◌∷◌, ◌++◌}
 use borrow.Author.Tests.{eqb-true, eqb-false, lt-ltb, le-leb, eq-eqb, ne_eqb}
@@ -18,7 +18,7 @@ use Rattle.block.specs.Words.{length_in, fresh_spot, fresh_room, held_spot, held
 use Rattle.block.specs.Sound.{view_of, log_of, block_of, sum_to, entries_in, Laid, Done}
 use Rattle.block.specs.Sums.{sum-at, sum_slack}
 use Rattle.block.specs.Chunks.{space-most, space_least, fresh-before, fresh-chunk, fresh-offset, fresh-new, held_after, width_holds}
-use Rattle.block.specs.Plans.{Fresh, Held, Planned, room_planned, planned_wide}
+use Rattle.block.proofs.Plans.{Fresh, Held, Planned, room_planned, planned_wide}
 use Rattle.block.specs.Growth.{Grown, grown_sound, grown_other, grown_own}
 use Rattle.block.specs.Stores.{Inside, stored-version, stored-cell, stored-length, stored-lengths, stored-bump, stored-base, stored_bases, stored-entry, stored-entries, stored-long}
 use Rattle.block.specs.Reads.{length-reads, log-length_at, entries_are}
