@@ -1,9 +1,8 @@
 -- The number of the first rule of a list that is broken: what it says of every rule, and that it is determined.
 -- Rests on nothing.
-use Rattle.std.specs.Prelude.{◌+◌, ◌<◌, suc, zero, ℕ, Bool, false, not, true, List, [], ◌∷◌, ◌⊎◌, ◌≡◌, refl}
+use Rattle.std.specs.Prelude.{◌+◌, ◌<◌, suc, zero, ℕ, Bool, false, not, true, List, [], ◌∷◌, ◌⊎◌, ◌≡◌, refl, if◌then◌else◌}
 use Rattle.std.proofs.Common.{inl, inr, ◌∙◌, subst, sym, arith}
 use Rattle.block.specs.Walk.{Decides}
-use Rattle.rulebook.specs.Sizes.{if◌then◌else◌}
 
 -- r is the number of the first of the rules Rs that is broken, numbered from q on; 0 where none is
 unfoldable pub First : ℕ → List (Type 0) → ℕ → Type 0

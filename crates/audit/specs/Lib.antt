@@ -8,4 +8,3 @@ pub mod Facts
 pub mod Paces
 pub mod Parts
 pub mod Order
-pub mod Kept

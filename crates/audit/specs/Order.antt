@@ -1,6 +1,6 @@
 -- The rules in their order: what the functions that ask them one after another owe.
 -- Rests on Broken and Decided.
-use Rattle.std.specs.Prelude.{ℕ, Bool, false, not, true, List, ◌≡◌, refl}
+use Rattle.std.specs.Prelude.{ℕ, Bool, false, not, true, List, ◌≡◌, refl, if◌then◌else◌}
 use Rattle.std.proofs.Common.{◌∙◌, sym, arith}
 use Rattle.std.proofs.Math.Path.{ap}
 use borrow.Author.Tests.{not-false, not-true}
@@ -9,7 +9,6 @@ use Rattle.rulebook.specs.declared.Sizes.{Sizes}
 use Rattle.layout.specs.Header.{header_of}
 use Rattle.layout.specs.Places.{Spans}
 use Rattle.layout.specs.Sizing.{header-spans}
-use Rattle.rulebook.specs.Sizes.{if◌then◌else◌}
 use Rattle.survey.specs.Broken.{broken_in, broken_logs, broken_of, broken_rows, broken_under, rule2, rule3, rule4, rule5, rule6, rule7}
 use Rattle.survey.specs.Decided.{decides_2, decides_3, decides_6}
 use Rattle.survey.specs.Rules.{Rule2, Rule3, Rule6}

@@ -1,4 +1,6 @@
 // The whole-store check: rule 7, and all seven rules in their order.
+#![tactic(auto)]
+
 mod facts;
 mod fillers;
 mod gets;

@@ -1,6 +1,6 @@
 -- For each look and each call, one law for each way out.
 -- Rests on pool's calls on words.
-use Rattle.std.specs.Prelude.{◌<◌, ◌≤◌, ℕ, not, List, ◌≡◌, eqb}
+use Rattle.std.specs.Prelude.{◌<◌, ◌≤◌, ℕ, not, List, ◌≡◌, eqb, if◌then◌else◌}
 use Rattle.std.proofs.Common.{◌∙◌}
 use Rattle.std.proofs.Math.Path.{ap, ap₂, refl, sym}
 use Rattle.std.proofs.Math.Dec.{leb}
@@ -24,7 +24,6 @@ use Rattle.layout.specs.Header.{header_of}
 use Rattle.layout.specs.Places.{Spans}
 use Rattle.layout.specs.Pool.{applied_in, cell_seen, entry_seen, length_seen, sight, task_seen, version_seen}
 use Rattle.layout.specs.Sizing.{header-spans}
-use Rattle.rulebook.specs.Sizes.{if◌then◌else◌}
 use Rattle.rulebook.specs.declared.Reply.TheVariants as reply
 use Rattle.layout.specs.declared.Header.TheVariants as header
 use Rattle.block.specs.declared.Looked.TheVariants as looked

@@ -1,6 +1,6 @@
 -- For each function of a release, one law for each way out.
 -- Rests on Started.
-use Rattle.std.specs.Prelude.{◌-◌, ◌<◌, ℕ, ◌&&◌, List, ltb}
+use Rattle.std.specs.Prelude.{◌<◌, ℕ, ◌&&◌, List, ltb}
 use Rattle.std.proofs.Common.{◌∙◌, subst, sym, ne_eqb}
 use Rattle.std.proofs.Math.Path.{◌≡◌, ap, refl}
 use native.Mathlib.Omega.{arith}

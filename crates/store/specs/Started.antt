@@ -1,6 +1,6 @@
 -- For each function of starts, one law for each way out: what its calls gave and its tests showed make what its contract says.
 -- Rests on acts' plans, on what doing an act leaves, and on Reach.
-use Rattle.std.specs.Prelude.{◌+◌, ◌-◌, ◌<◌, ◌≤◌, ℕ, Bool, ◌||◌, false, not, List, ◌≡◌, refl, ltb, get_or}
+use Rattle.std.specs.Prelude.{◌+◌, ◌-◌, ◌<◌, ◌≤◌, ℕ, Bool, ◌||◌, false, not, List, ◌≡◌, refl, ltb, get_or, if◌then◌else◌}
 use Rattle.std.proofs.Math.Bool.{true}
 use Rattle.std.proofs.Common.{◌∙◌, subst}
 use Rattle.std.proofs.Math.Path.{ap, sym}
@@ -23,7 +23,6 @@ use Rattle.layout.specs.Keeps.{keeps-spans, slot-keeps}
 use Rattle.layout.specs.Places.{Spans, task_part}
 use Rattle.layout.specs.Pool.{applied_in, put_slot, put_task, sight, slot_seen, task_seen}
 use Rattle.layout.specs.Rows.{task_read, task_seen_of}
-use Rattle.rulebook.specs.Sizes.{if◌then◌else◌}
 use Rattle.rulebook.specs.State.{busy}
 use Rattle.rulebook.specs.Tests.{by_test}
 use Rattle.work.specs.Asked.{FoundBelow}

@@ -1,4 +1,6 @@
 // The store's calls on a lent pool. Each reads the header, and does what the row of its task and one block ask for, in place.
+#![tactic(auto)]
+
 mod looks;
 mod starts;
 

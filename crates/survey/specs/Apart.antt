@@ -1,6 +1,6 @@
 -- Rule 5's marks by number: what holds along the chain of a block and from block to block, and what each way out owes.
 -- Rests on Chains and Decided.
-use Rattle.std.specs.Prelude.{◌+◌, ◌<◌, ◌≤◌, ℕ, Bool, false, not, true, List, ◌≡◌, refl, eqb, ltb, get_or, length, replicate, set}
+use Rattle.std.specs.Prelude.{◌+◌, ◌<◌, ◌≤◌, ℕ, Bool, false, not, true, List, ◌≡◌, refl, eqb, ltb, get_or, length, replicate, set, if◌then◌else◌}
 use Rattle.std.proofs.lemmas.Bool.{false≢true}
 use Rattle.std.proofs.Common.{true≢false, ◌∙◌, ap, subst, sym, not-suc-le-zero, arith, length-set, get_or-set_other, get_or-set_same}
 use Rattle.std.proofs.lemmas.List.{get_or-replicate, length-replicate}
@@ -10,7 +10,6 @@ use Rattle.rulebook.specs.declared.Slot.{Slot}
 use Rattle.block.specs.Walk.{Decides}
 use Rattle.layout.specs.Places.{Spans, slot_part}
 use Rattle.layout.specs.Rows.{slot_read}
-use Rattle.rulebook.specs.Sizes.{if◌then◌else◌}
 use Rattle.rulebook.specs.Tests.{by_test}
 use Rattle.survey.specs.Broken.{rule5}
 use Rattle.survey.specs.Decided.{decides_5}

@@ -1,6 +1,6 @@
 -- What the check computes: for each rule whether it holds, and the number of the first that is broken.
 -- Rests on Rules, Holds and Decide; nothing is proved here.
-use Rattle.std.specs.Prelude.{◌+◌, min, ℕ, Bool, ◌&&◌, not, List, eqb, leb, ltb, get_or}
+use Rattle.std.specs.Prelude.{◌+◌, min, ℕ, Bool, ◌&&◌, not, List, eqb, leb, ltb, get_or, if◌then◌else◌}
 use Rattle.layout.specs.declared.Header.{Header}
 use Rattle.rulebook.specs.declared.Sizes.{Sizes}
 use Rattle.rulebook.specs.declared.Slot.{Slot}
@@ -11,7 +11,6 @@ use Rattle.layout.specs.Codes.{code_of}
 use Rattle.layout.specs.Header.{header_of}
 use Rattle.layout.specs.Places.{block_part, slot_part, task_part}
 use Rattle.layout.specs.Rows.{task_read}
-use Rattle.rulebook.specs.Sizes.{if◌then◌else◌}
 use Rattle.rulebook.specs.State.{block_at, fills, is_live, names, reserves, stood, writes}
 use Rattle.theorems.specs.Terms.{all_to, entries}
 use Rattle.survey.specs.Decide.{◌implies◌, some_to}

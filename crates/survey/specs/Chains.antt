@@ -1,6 +1,6 @@
 -- The live handles of each block, chained in one pass over the slots: from the last slot on the block to the first.
 -- Rests on Reads, Ways and Decided.
-use Rattle.std.specs.Prelude.{◌+◌, ◌<◌, ◌≤◌, suc, zero, ℕ, Bool, ◌&&◌, false, not, true, List, ◌≡◌, refl, get_or, length, replicate, set}
+use Rattle.std.specs.Prelude.{◌+◌, ◌<◌, ◌≤◌, suc, zero, ℕ, Bool, ◌&&◌, false, not, true, List, ◌≡◌, refl, get_or, length, replicate, set, if◌then◌else◌}
 use Rattle.std.proofs.Common.{true≢false, ◌∙◌, sym, not-suc-le-zero, add-one, arith, length-set, get_or-set_other, get_or-set_same}
 use Rattle.std.proofs.Math.Path.{ap, subst}
 use Rattle.std.proofs.Math.Dec.{eqb}
@@ -11,7 +11,7 @@ use Rattle.rulebook.specs.declared.Slot.{Slot}
 use Rattle.rulebook.specs.declared.Status.{Status}
 use Rattle.layout.specs.Places.{Spans, slot_part}
 use Rattle.layout.specs.Rows.{slot_read}
-use Rattle.rulebook.specs.Sizes.{if◌then◌else◌, most_blocks, most_handles}
+use Rattle.rulebook.specs.Sizes.{most_blocks, most_handles}
 use Rattle.rulebook.specs.State.{is_live}
 use Rattle.rulebook.specs.Tests.{and_both, by_test}
 use Rattle.survey.specs.Decided.{live_below}

@@ -18,7 +18,6 @@ use Rattle.rules.specs.Paced.{copy_steps}
 use Rattle.theorems.specs.Prices.Digits.{left_of}
 use Rattle.theorems.specs.Terms.{all_to, digits, version_at, entries}
 use Rattle.survey.specs.Decide.{◌implies◌, some_to}
-use Rattle.survey.specs.Rules.{slot}
 use Rattle.rulebook.specs.declared.Stage.TheVariants as stage
 use Rattle.rulebook.specs.declared.Reading.TheVariants as reading
 use Rattle.rulebook.specs.declared.Status.TheVariants as status

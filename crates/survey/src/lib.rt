@@ -1,4 +1,6 @@
 // Rules 2 to 6 of the whole-store check, on the words: handles, logs, and what tasks hold.
+#![tactic(auto)]
+
 pub mod apart;
 pub mod handles;
 pub mod holds;

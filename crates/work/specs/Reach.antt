@@ -1,6 +1,6 @@
 -- Whatever a pool holds, what a plan names is there: the slot and the task that it changes.
 -- Rests on the ranges of the rows that were read.
-use Rattle.std.specs.Prelude.{◌+◌, ◌<◌, suc, zero, ℕ, Bool, ◌&&◌, ◌||◌, false, not, true, List, eqb, leb, get_or}
+use Rattle.std.specs.Prelude.{◌+◌, ◌<◌, suc, zero, ℕ, Bool, ◌&&◌, ◌||◌, false, not, true, List, eqb, leb, get_or, if◌then◌else◌}
 use Rattle.std.proofs.Common.{true≢false, arith}
 use Rattle.std.proofs.Math.Path.{◌≡◌, refl}
 use Rattle.std.proofs.Math.Dec.{ltb}
@@ -23,7 +23,7 @@ use Rattle.acts.specs.Sight.{Sight}
 use Rattle.layout.specs.Places.{Spans, slot_part}
 use Rattle.layout.specs.Pool.{InReach, sight, slot_seen, slot_near, task_seen, task_near}
 use Rattle.layout.specs.Rows.{slot_seen_of}
-use Rattle.rulebook.specs.Sizes.{if◌then◌else◌, last_serial, slot_of}
+use Rattle.rulebook.specs.Sizes.{last_serial, slot_of}
 use Rattle.rulebook.specs.State.{idle, is_free}
 use Rattle.rulebook.specs.Tests.{by_test, if_case}
 use Rattle.work.specs.Asked.{FoundBelow}

@@ -1,6 +1,6 @@
 -- The code that was read of a task's row: what the step of its stage does is what the plan of a step does.
 -- Rests on Stepped.
-use Rattle.std.specs.Prelude.{◌<◌, ◌≤◌, ℕ, List, ◌≡◌, ltb, get_or}
+use Rattle.std.specs.Prelude.{◌<◌, ◌≤◌, ℕ, List, ◌≡◌, ltb, get_or, if◌then◌else◌}
 use Rattle.std.proofs.Common.{◌∙◌, sym}
 use Rattle.std.proofs.Math.Path.{ap, refl}
 use Rattle.std.proofs.Math.Dec.{eqb}
@@ -24,7 +24,6 @@ use Rattle.layout.specs.Places.{Spans, task_part}
 use Rattle.layout.specs.Pool.{sight, task_seen}
 use Rattle.layout.specs.Codes.{is_code, stage_from}
 use Rattle.layout.specs.Rows.{task_read, task_seen_of}
-use Rattle.rulebook.specs.Sizes.{if◌then◌else◌}
 use Rattle.rulebook.specs.State.{hand_of}
 use Rattle.rulebook.specs.Steps.{moved}
 use Rattle.rulebook.specs.Tests.{by_test}

@@ -3,7 +3,7 @@
 use Prim.Native.Nat.{◌<◌, ◌≤◌, ℕ}
 use mathlib.Core.List.{List}
 use Rattle.std.proofs.Common.{◌∙◌, sym}
-use Rattle.std.specs.Prelude.{◌≡◌, eqb, leb}
+use Rattle.std.specs.Prelude.{◌≡◌, eqb, leb, if◌then◌else◌}
 use Rattle.std.proofs.Math.Path.{ap, refl}
 use borrow.Author.Tests.{eq-eqb, le-leb, lt-leb, ne_eqb}
 use Rattle.acts.specs.declared.Reader.{Reader}
@@ -22,7 +22,6 @@ use Rattle.acts.specs.Said.{said_of}
 use Rattle.layout.specs.Places.{task_part}
 use Rattle.layout.specs.Pool.{cell_seen, entry_seen, length_seen, put_task, sight, version_seen}
 use Rattle.layout.specs.Rows.{task_with}
-use Rattle.rulebook.specs.Sizes.{if◌then◌else◌}
 use Rattle.rulebook.specs.State.{hand_of, idle}
 use Rattle.rulebook.specs.Steps.{answer, guessed, middle, moved, probed_at, searching}
 use Rattle.rulebook.specs.Tests.{by_test, if_case}

@@ -1,7 +1,7 @@
 -- What a step leaves and says, stage by stage, on the row of its task and one block; and what doing an act leaves and says.
 -- Rests on acts' plans and on what doing an act leaves of the words.
 use Prim.Native.Nat.{◌+◌, ◌<◌, ◌≤◌, ℕ}
-use Rattle.std.specs.Prelude.{Bool, not, true, ◌≡◌, eqb, leb}
+use Rattle.std.specs.Prelude.{Bool, not, true, ◌≡◌, eqb, leb, if◌then◌else◌}
 use Rattle.std.proofs.Math.Bool.{false}
 use mathlib.Core.List.{List}
 use Rattle.std.proofs.Common.{◌∙◌, subst}
@@ -26,7 +26,7 @@ use Rattle.layout.specs.Keeps.{keeps-spans}
 use Rattle.layout.specs.Places.{Spans, task_part}
 use Rattle.layout.specs.Pool.{acted_in, applied_in, put_slot, put_task, seated_in, sight, slot_seen, touch_near, touched_in, touched_near, turned_in}
 use Rattle.layout.specs.Rows.{task_with}
-use Rattle.rulebook.specs.Sizes.{if◌then◌else◌, last_serial, public_number}
+use Rattle.rulebook.specs.Sizes.{last_serial, public_number}
 use Rattle.rulebook.specs.State.{hand_of, idle}
 use Rattle.rulebook.specs.Steps.{aimed, moved}
 use Rattle.acts.specs.declared.Read.TheVariants as read

@@ -1,4 +1,6 @@
 // The work of tasks on a lent pool: a step, stage by stage, on the row of its task and one block; and the searches of rows.
+#![tactic(auto)]
+
 mod ends;
 mod news;
 mod readings;

@@ -8,10 +8,10 @@ use borrow.Author.Rules.{rules}
 use Rattle.audit.proofs.gets.all_older.Statement.{statement}
 use Rattle.audit.proofs.gets.all_older.Tie as tie
 
-abbrev invariant_loop : tie.invariant_loop
+abbrev invariant_loop : tie.invariant-loop-j
 invariant_loop words d k i l lo j₀ j = (j ≤ lo) × (all_to (older_in d words k i l) j ≡ true)
 
-abbrev decreases_loop : tie.decreases_loop
+abbrev decreases_loop : tie.decreases-loop-j
 decreases_loop words d k i l lo j₀ j = lo - j
 
 pub all_older_spec : {M : Type 1} → statement M

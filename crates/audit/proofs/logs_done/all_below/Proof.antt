@@ -8,10 +8,10 @@ use borrow.Author.Rules.{rules}
 use Rattle.audit.proofs.logs_done.all_below.Statement.{statement}
 use Rattle.audit.proofs.logs_done.all_below.Tie as tie
 
-abbrev invariant_loop : tie.invariant_loop
+abbrev invariant_loop : tie.invariant-loop-i
 invariant_loop words d k v i₀ i = (i ≤ d.n) × (all_to (cell_below d words k v) i ≡ true)
 
-abbrev decreases_loop : tie.decreases_loop
+abbrev decreases_loop : tie.decreases-loop-i
 decreases_loop words d k v i₀ i = d.n - i
 
 pub all_below_spec : {M : Type 1} → statement M

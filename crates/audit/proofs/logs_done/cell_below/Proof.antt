@@ -7,10 +7,10 @@ use borrow.Author.Rules.{rules}
 use Rattle.audit.proofs.logs_done.cell_below.Statement.{statement}
 use Rattle.audit.proofs.logs_done.cell_below.Tie as tie
 
-abbrev invariant_loop : tie.invariant_loop
+abbrev invariant_loop : tie.invariant-loop-q
 invariant_loop words d k i v m q₀ q = (q ≤ m) × (all_to (entry_below d words k v i) q ≡ true)
 
-abbrev decreases_loop : tie.decreases_loop
+abbrev decreases_loop : tie.decreases-loop-q
 decreases_loop words d k i v m q₀ q = m - q
 
 pub cell_below_spec : {M : Type 1} → statement M

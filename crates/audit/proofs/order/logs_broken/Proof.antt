@@ -11,6 +11,6 @@ logs_broken_spec =
     (λ c. search (rules, orders))
     (λ c κs. search (rules, orders))
     (λ c. search (rules, orders))
-    (λ c κs. (search rules, search (rules, asked-two), asked-three _ _ _ c.before.logs_hold.ensures c.if2.false, search rules))
+    (λ c κs. (search rules, search (rules, asked-two), asked-three _ _ _ c.logs_hold.ensures c.if-not-logs_hold.false-raw, search rules))
     (λ c. search (rules, orders))
     (λ c. search (rules, orders)))

@@ -8,10 +8,10 @@ use borrow.Author.Rules.{rules}
 use Rattle.audit.proofs.slots.blocks_laid.Statement.{statement}
 use Rattle.audit.proofs.slots.blocks_laid.Tie as tie
 
-abbrev invariant_loop : tie.invariant_loop
+abbrev invariant_loop : tie.invariant-loop-k
 invariant_loop words d stood k₀ k = (k ≤ d.b) × (all_to (laid_at d words) k ≡ true)
 
-abbrev decreases_loop : tie.decreases_loop
+abbrev decreases_loop : tie.decreases-loop-k
 decreases_loop words d stood k₀ k = d.b - k
 
 pub blocks_laid_spec : {M : Type 1} → statement M

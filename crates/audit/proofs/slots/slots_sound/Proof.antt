@@ -8,10 +8,10 @@ use borrow.Author.Rules.{rules}
 use Rattle.audit.proofs.slots.slots_sound.Statement.{statement}
 use Rattle.audit.proofs.slots.slots_sound.Tie as tie
 
-abbrev invariant_loop : tie.invariant_loop
+abbrev invariant_loop : tie.invariant-loop-j
 invariant_loop words d j₀ j = (j ≤ d.h) × (all_to (slot_sound d words) j ≡ true)
 
-abbrev decreases_loop : tie.decreases_loop
+abbrev decreases_loop : tie.decreases-loop-j
 decreases_loop words d j₀ j = d.h - j
 
 pub slots_sound_spec : {M : Type 1} → statement M

@@ -8,10 +8,10 @@ use borrow.Author.Rules.{rules}
 use Rattle.audit.proofs.writers.writer_alone.Statement.{statement}
 use Rattle.audit.proofs.writers.writer_alone.Tie as tie
 
-abbrev invariant_loop : tie.invariant_loop
+abbrev invariant_loop : tie.invariant-loop-u
 invariant_loop words d k t u₀ u = (u ≤ d.t) × (all_to (writer_apart d words k t) u ≡ true)
 
-abbrev decreases_loop : tie.decreases_loop
+abbrev decreases_loop : tie.decreases-loop-u
 decreases_loop words d k t u₀ u = d.t - u
 
 pub writer_alone_spec : {M : Type 1} → statement M

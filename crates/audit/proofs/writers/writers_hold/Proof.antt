@@ -8,10 +8,10 @@ use borrow.Author.Rules.{rules}
 use Rattle.audit.proofs.writers.writers_hold.Statement.{statement}
 use Rattle.audit.proofs.writers.writers_hold.Tie as tie
 
-abbrev invariant_loop : tie.invariant_loop
+abbrev invariant_loop : tie.invariant-loop-t
 invariant_loop words d t₀ t = (t ≤ d.t) × (all_to (writer_at d words) t ≡ true)
 
-abbrev decreases_loop : tie.decreases_loop
+abbrev decreases_loop : tie.decreases-loop-t
 decreases_loop words d t₀ t = d.t - t
 
 pub writers_hold_spec : {M : Type 1} → statement M

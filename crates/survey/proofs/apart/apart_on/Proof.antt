@@ -5,10 +5,10 @@ use borrow.Author.Rules.{rules}
 use Rattle.survey.proofs.apart.apart_on.Statement.{statement}
 use Rattle.survey.proofs.apart.apart_on.Tie as tie
 
-abbrev invariant_loop : tie.invariant_loop
+abbrev invariant_loop : tie.invariant-loop-j
 invariant_loop words d first next k seen₀ j₀ seen j = (length seen ≡ length seen₀) × Down d words first next k j seen
 
-abbrev decreases_loop : tie.decreases_loop
+abbrev decreases_loop : tie.decreases-loop-j
 decreases_loop words d first next k seen₀ j₀ seen j = left j
 
 pub apart_on_spec : {M : Type 1} → statement M

@@ -6,10 +6,10 @@ use borrow.Author.Rules.{rules}
 use Rattle.survey.proofs.apart.chain_slots.Statement.{statement}
 use Rattle.survey.proofs.apart.chain_slots.Tie as tie
 
-abbrev invariant_loop : tie.invariant_loop
+abbrev invariant_loop : tie.invariant-loop-j
 invariant_loop words d first₀ next₀ j₀ first next j = (j ≤ d.h) × (length first ≡ length first₀) × (length next ≡ length next₀) × ChainedTo d words j first next
 
-abbrev decreases_loop : tie.decreases_loop
+abbrev decreases_loop : tie.decreases-loop-j
 decreases_loop words d first₀ next₀ j₀ first next j = d.h - j
 
 pub chain_slots_spec : {M : Type 1} → statement M

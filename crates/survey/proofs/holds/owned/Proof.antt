@@ -8,10 +8,10 @@ use borrow.Author.Rules.{rules}
 use Rattle.survey.proofs.holds.owned.Statement.{statement}
 use Rattle.survey.proofs.holds.owned.Tie as tie
 
-abbrev invariant_loop : tie.invariant_loop
+abbrev invariant_loop : tie.invariant-loop-t
 invariant_loop words d j t₀ t = (t ≤ d.t) × (some_to (owns_at d words j) t ≡ false)
 
-abbrev decreases_loop : tie.decreases_loop
+abbrev decreases_loop : tie.decreases-loop-t
 decreases_loop words d j t₀ t = d.t - t
 
 pub owned_spec : {M : Type 1} → statement M

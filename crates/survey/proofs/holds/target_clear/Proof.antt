@@ -8,10 +8,10 @@ use borrow.Author.Rules.{rules}
 use Rattle.survey.proofs.holds.target_clear.Statement.{statement}
 use Rattle.survey.proofs.holds.target_clear.Tie as tie
 
-abbrev invariant_loop : tie.invariant_loop
+abbrev invariant_loop : tie.invariant-loop-j
 invariant_loop words d k j₀ j = (j ≤ d.h) × (all_to (off_target d words k) j ≡ true)
 
-abbrev decreases_loop : tie.decreases_loop
+abbrev decreases_loop : tie.decreases-loop-j
 decreases_loop words d k j₀ j = d.h - j
 
 pub target_clear_spec : {M : Type 1} → statement M

@@ -8,10 +8,10 @@ use borrow.Author.Rules.{rules}
 use Rattle.survey.proofs.holds.tasks_hold_well.Statement.{statement}
 use Rattle.survey.proofs.holds.tasks_hold_well.Tie as tie
 
-abbrev invariant_loop : tie.invariant_loop
+abbrev invariant_loop : tie.invariant-loop-t
 invariant_loop words d t₀ t = (t ≤ d.t) × (all_to (rule6_at d words) t ≡ true)
 
-abbrev decreases_loop : tie.decreases_loop
+abbrev decreases_loop : tie.decreases-loop-t
 decreases_loop words d t₀ t = d.t - t
 
 pub tasks_hold_well_spec : {M : Type 1} → statement M

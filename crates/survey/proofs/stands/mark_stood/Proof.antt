@@ -6,10 +6,10 @@ use borrow.Author.Rules.{rules}
 use Rattle.survey.proofs.stands.mark_stood.Statement.{statement}
 use Rattle.survey.proofs.stands.mark_stood.Tie as tie
 
-abbrev invariant_loop : tie.invariant_loop
+abbrev invariant_loop : tie.invariant-loop-j
 invariant_loop words d marks₀ j₀ marks j = (j ≤ d.h) × (length marks ≡ length marks₀) × MarkedTo d words j marks
 
-abbrev decreases_loop : tie.decreases_loop
+abbrev decreases_loop : tie.decreases-loop-j
 decreases_loop words d marks₀ j₀ marks j = d.h - j
 
 pub mark_stood_spec : {M : Type 1} → statement M

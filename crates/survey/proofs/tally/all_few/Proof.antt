@@ -9,10 +9,10 @@ use borrow.Author.Rules.{rules}
 use Rattle.survey.proofs.tally.all_few.Statement.{statement}
 use Rattle.survey.proofs.tally.all_few.Tie as tie
 
-abbrev invariant_loop : tie.invariant_loop
+abbrev invariant_loop : tie.invariant-loop-k
 invariant_loop words d stood k₀ k = (k ≤ d.b) × (all_to (rule4_at d words) k ≡ true)
 
-abbrev decreases_loop : tie.decreases_loop
+abbrev decreases_loop : tie.decreases-loop-k
 decreases_loop words d stood k₀ k = d.b - k
 
 pub all_few_spec : {M : Type 1} → statement M

@@ -4,10 +4,10 @@ use borrow.Author.Rules.{rules}
 use Rattle.survey.proofs.tally.entries_of.Statement.{statement}
 use Rattle.survey.proofs.tally.entries_of.Tie as tie
 
-abbrev invariant_loop : tie.invariant_loop
+abbrev invariant_loop : tie.invariant-loop-i
 invariant_loop words d k total₀ i₀ total i = TallyAt d words k total i
 
-abbrev decreases_loop : tie.decreases_loop
+abbrev decreases_loop : tie.decreases-loop-i
 decreases_loop words d k total₀ i₀ total i = d.n - i
 
 pub entries_of_spec : {M : Type 1} → statement M

@@ -5,22 +5,22 @@ use borrow.Author.Rules.{rules}
 use Rattle.survey.proofs.walk.logs_hold.Statement.{statement}
 use Rattle.survey.proofs.walk.logs_hold.Tie as tie
 
-abbrev invariant_loop2 : tie.invariant_loop2
+abbrev invariant_loop2 : tie.invariant-loop-j
 invariant_loop2 words d stood kept₀ k v marks₀ i m least₀ j₀ k-end i-end kept marks least j = EntriesAt d words k v i m marks least j kept
 
-abbrev decreases_loop2 : tie.decreases_loop2
+abbrev decreases_loop2 : tie.decreases-loop-j
 decreases_loop2 words d stood kept₀ k v marks₀ i m least₀ j₀ k-end i-end kept marks least j = m - j
 
-abbrev invariant_loop : tie.invariant_loop
+abbrev invariant_loop : tie.invariant-loop-i
 invariant_loop words d stood kept₀ k v marks₀ i₀ k-end i-end kept marks i = LogsAt d words k v marks i kept
 
-abbrev decreases_loop : tie.decreases_loop
+abbrev decreases_loop : tie.decreases-loop-i
 decreases_loop words d stood kept₀ k v marks₀ i₀ k-end i-end kept marks i = d.n - i
 
-abbrev invariant_walk : tie.invariant_walk
+abbrev invariant_walk : tie.invariant-walk
 invariant_walk words d stood kept₀ k₀ k-end kept k = BlocksAt d words k kept
 
-abbrev decreases_walk : tie.decreases_walk
+abbrev decreases_walk : tie.decreases-walk
 decreases_walk words d stood kept₀ k₀ k-end kept k = d.b - k
 
 pub logs_hold_spec : {M : Type 1} → statement M

@@ -8,10 +8,10 @@ use borrow.Author.Rules.{rules}
 use Rattle.work.proofs.searches.free_block.Statement.{statement}
 use Rattle.work.proofs.searches.free_block.Tie as tie
 
-abbrev invariant_loop : tie.invariant_loop
+abbrev invariant_loop : tie.invariant-loop-d
 invariant_loop words d b₀ b = (b ≤ d.b) × (first_of (free_at (sight words d)) b ≡ None)
 
-abbrev decreases_loop : tie.decreases_loop
+abbrev decreases_loop : tie.decreases-loop-d
 decreases_loop words d b₀ b = d.b - b
 
 pub free_block_spec : {M : Type 1} → statement M

@@ -7,10 +7,10 @@ use borrow.Author.Rules.{rules}
 use Rattle.work.proofs.searches.live_handles.Statement.{statement}
 use Rattle.work.proofs.searches.live_handles.Tie as tie
 
-abbrev invariant_loop : tie.invariant_loop
+abbrev invariant_loop : tie.invariant-loop-j
 invariant_loop words d c₀ j₀ j_end c j = (j ≤ d.h) × (c ≡ count_of (lives_at (sight words d)) j)
 
-abbrev decreases_loop : tie.decreases_loop
+abbrev decreases_loop : tie.decreases-loop-j
 decreases_loop words d c₀ j₀ j_end c j = d.h - j
 
 pub live_handles_spec : {M : Type 1} → statement M

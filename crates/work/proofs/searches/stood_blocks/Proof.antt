@@ -8,10 +8,10 @@ use borrow.Author.Rules.{rules}
 use Rattle.work.proofs.searches.stood_blocks.Statement.{statement}
 use Rattle.work.proofs.searches.stood_blocks.Tie as tie
 
-abbrev invariant_loop : tie.invariant_loop
+abbrev invariant_loop : tie.invariant-loop-b
 invariant_loop words d c₀ b₀ b_end c b = (b ≤ d.b) × (c ≡ count_of (stander_in (sight words d)) b)
 
-abbrev decreases_loop : tie.decreases_loop
+abbrev decreases_loop : tie.decreases-loop-b
 decreases_loop words d c₀ b₀ b_end c b = d.b - b
 
 pub stood_blocks_spec : {M : Type 1} → statement M

@@ -8,10 +8,10 @@ use borrow.Author.Rules.{rules}
 use Rattle.work.proofs.searches.user.Statement.{statement}
 use Rattle.work.proofs.searches.user.Tie as tie
 
-abbrev invariant_loop : tie.invariant_loop
+abbrev invariant_loop : tie.invariant-loop-t
 invariant_loop words d j t₀ t = (t ≤ d.t) × (first_of (names_at (sight words d) j) t ≡ None)
 
-abbrev decreases_loop : tie.decreases_loop
+abbrev decreases_loop : tie.decreases-loop-t
 decreases_loop words d j t₀ t = d.t - t
 
 pub user_spec : {M : Type 1} → statement M

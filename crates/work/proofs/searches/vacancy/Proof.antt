@@ -8,10 +8,10 @@ use borrow.Author.Rules.{rules}
 use Rattle.work.proofs.searches.vacancy.Statement.{statement}
 use Rattle.work.proofs.searches.vacancy.Tie as tie
 
-abbrev invariant_loop : tie.invariant_loop
+abbrev invariant_loop : tie.invariant-loop-j
 invariant_loop words d j₀ j = (j ≤ d.h) × (first_of (vacant_at (sight words d)) j ≡ None)
 
-abbrev decreases_loop : tie.decreases_loop
+abbrev decreases_loop : tie.decreases-loop-j
 decreases_loop words d j₀ j = d.h - j
 
 pub vacancy_spec : {M : Type 1} → statement M
