@@ -1,4 +1,3 @@
 pub mod Said
 pub mod Promises
 pub mod Promised
-pub mod Proofs

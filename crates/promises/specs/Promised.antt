@@ -1,4 +1,4 @@
--- All promises of one build of the C functions, as one record. Proofs.All shows it of the product's, `spoken`.
+-- All promises of one build of the C functions, as one record. proofs/All.antt shows it of the product's, `spoken`.
 -- Rests on Promises.
 use Rattle.promises.specs.Promises.{AnswerLength, AnswerRest, BusyBelow, CheckPasses, CheckSound, CheckTells, Kept, MachineAnswers, MachineCall, MachineHistory, MachineState, NumbersOnce, OpenDue, PagesJoin, PagesJoinAny, PoolLength, PoolRest, Priced, Reads, ReadsInOrder, RefusalDue, RefusalKeeps, RefusalZeros, SetsBound, ShortSlice, StaysSound, StepsCounted, StepsExact, Tables, TenHarmless, Undescribed}
 use Rattle.promises.specs.Said.{Build}

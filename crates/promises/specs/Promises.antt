@@ -1,6 +1,6 @@
--- The promises: the three demands, stated of the calls that C makes. No proof stands here; each statement is proved in Proofs under its own name.
+-- The promises: the three demands, stated of the calls that C makes. No proof stands here; each statement is proved in proofs/ under its own name.
 -- Rests on Said for what a call is and what a caller notes of it, and on theorems' Terms for what is right for a value, a page and a price.
-use Rattle.std.specs.Prelude.{◌*◌, ◌+◌, ◌<◌, ◌≤◌, ℕ, false, true, List, ◌∷◌, ◌≡◌, get_or, length, replicate, take}
+use Rattle.std.specs.Prelude.{◌*◌, ◌+◌, ◌<◌, ◌≤◌, ℕ, false, true, List, ◌∷◌, ◌≡◌, get_or, length, replicate, take, if◌then◌else◌}
 use Rattle.audit.specs.Check.{FirstBroken}
 use Rattle.bridge.specs.Asked.{Asked, Open, Step, call_of}
 use Rattle.bridge.specs.Sound.{Sound}
@@ -12,7 +12,7 @@ use Rattle.rulebook.specs.Answers.{operation}
 use Rattle.rulebook.specs.declared.Sizes.{Sizes}
 use Rattle.rulebook.specs.History.{Ended, Past, Value, fresh, past, run, sets_bound, table_of, work_code}
 use Rattle.rulebook.specs.Machine.{Call, call}
-use Rattle.rulebook.specs.Sizes.{block_words, if◌then◌else◌, opens, room}
+use Rattle.rulebook.specs.Sizes.{block_words, opens, room}
 use Rattle.rulebook.specs.Starts.{opened}
 use Rattle.rulebook.specs.State.{State, busy, live_handle, task_at}
 use Rattle.theorems.specs.Terms.{Every, Harmless, HasGiven, In, IsRead, Once, Spent, by_cell, causes, cells_of, due, on_version, price, shown, up_to, values_of}

@@ -1,6 +1,6 @@
 -- Calls as C makes them: what a call leaves of the pool and the answer slice, the number that it returns, and what a caller notes of it.
 -- Each clause of `spoken` is the right side of that C function's contract. Rests on winchclover, audit, bridge's Asked and the rule book's histories.
-use Rattle.std.specs.Prelude.{◌+◌, ℕ, Bool, ◌&&◌, ◌||◌, false, not, true, List, [], ◌++◌, ◌∷◌, eqb, ltb, get_or, length, take}
+use Rattle.std.specs.Prelude.{◌+◌, ℕ, Bool, ◌&&◌, ◌||◌, false, not, true, List, [], ◌++◌, ◌∷◌, eqb, ltb, get_or, length, take, if◌then◌else◌}
 use Rattle.survey.specs.Broken.{broken_in}
 use Rattle.bridge.specs.Asked.{Asked, Get, LookCell, LookEntry, LookLog, LookTask, LookVersion, New, Open, Page, Release, Report, Set, Step, call_of}
 use Rattle.layout.specs.Calls.{look_cell_in, look_entry_in, look_log_in, look_task_in, look_version_in, release_in, report_in, start_get_in, start_new_in, start_page_in, start_set_in, step_in}
@@ -15,7 +15,6 @@ use Rattle.rulebook.specs.declared.Reply.TheVariants as reply
 use Rattle.rulebook.specs.declared.Stage.{Stage}
 use Rattle.rulebook.specs.History.{Ended, Numbered, Past, Value, Work, change, fresh, is_set, making, not_yet_set, one, paging, probing, reading, released, resting, setting, started, table_of}
 use Rattle.rulebook.specs.Machine.{Call}
-use Rattle.rulebook.specs.Sizes.{if◌then◌else◌}
 use Rattle.rulebook.specs.State.{State, exchanges, list_to, task_at}
 use Rattle.winchclover.specs.Answered.{answered_in, shown_in}
 

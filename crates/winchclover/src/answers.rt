@@ -1,8 +1,7 @@
 // What C reads of an answer: the refusal number, and the first 16 words of the answer slice.
-ghost use Rattle.std.specs.Prelude.{◌≡◌, ◌≤◌, length};
+ghost use Rattle.std.specs.Prelude.{◌≡◌, ◌≤◌, length, if◌then◌else◌};
 ghost use Rattle.rulebook.specs.Answers.{operation, reading_code, stage_code};
 ghost use Rattle.acts.specs.Said.{said_of};
-ghost use Rattle.rulebook.specs.Sizes.{if◌then◌else◌};
 ghost use Rattle.winchclover.specs.Answered.{hushed, listed_in, said_in, spoken_in};
 
 use acts::Said;

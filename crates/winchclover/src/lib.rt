@@ -1,4 +1,6 @@
 // The C functions: include/winchclover.h says what each takes and answers.
+#![tactic(auto)]
+
 mod answers;
 
 ghost use Rattle.std.specs.Prelude.{◌≡◌};
@@ -14,14 +16,7 @@ use rulebook::Reply;
 // The least number of words of an answer slice.
 const ANSWER_WORDS: usize = 16;
 
-#[unsafe(no_mangle)]
-pub extern "C" fn winch_open(
-    pool: &mut [u32],
-    cells: u32,
-    handles: u32,
-    tasks: u32,
-    answer: &mut [u32],
-) -> u32
+pub fn winch_open(pool: &mut [u32], cells: u32, handles: u32, tasks: u32, answer: &mut [u32]) -> u32
     ensures { ((pool.new, answer.new), result) ≡ answered_in (λ p. open_in p cells handles tasks) pool.old answer.old }
 {
     if answer.len() < ANSWER_WORDS {
@@ -31,13 +26,7 @@ pub extern "C" fn winch_open(
     tell(answer, r)
 }
 
-#[unsafe(no_mangle)]
-pub extern "C" fn winch_start_new(
-    pool: &mut [u32],
-    task: u32,
-    value: u32,
-    answer: &mut [u32],
-) -> u32
+pub fn winch_start_new(pool: &mut [u32], task: u32, value: u32, answer: &mut [u32]) -> u32
     ensures { ((pool.new, answer.new), result) ≡ answered_in (λ p. start_new_in p task value) pool.old answer.old }
 {
     if answer.len() < ANSWER_WORDS {
@@ -47,8 +36,7 @@ pub extern "C" fn winch_start_new(
     say(answer, r)
 }
 
-#[unsafe(no_mangle)]
-pub extern "C" fn winch_start_get(
+pub fn winch_start_get(
     pool: &mut [u32],
     task: u32,
     handle: u32,
@@ -64,8 +52,7 @@ pub extern "C" fn winch_start_get(
     say(answer, r)
 }
 
-#[unsafe(no_mangle)]
-pub extern "C" fn winch_start_set(
+pub fn winch_start_set(
     pool: &mut [u32],
     task: u32,
     handle: u32,
@@ -82,8 +69,7 @@ pub extern "C" fn winch_start_set(
     say(answer, r)
 }
 
-#[unsafe(no_mangle)]
-pub extern "C" fn winch_start_page(
+pub fn winch_start_page(
     pool: &mut [u32],
     task: u32,
     handle: u32,
@@ -100,8 +86,7 @@ pub extern "C" fn winch_start_page(
     say(answer, r)
 }
 
-#[unsafe(no_mangle)]
-pub extern "C" fn winch_step(pool: &mut [u32], task: u32, answer: &mut [u32]) -> u32
+pub fn winch_step(pool: &mut [u32], task: u32, answer: &mut [u32]) -> u32
     ensures { ((pool.new, answer.new), result) ≡ answered_in (λ p. step_in p task) pool.old answer.old }
 {
     if answer.len() < ANSWER_WORDS {
@@ -111,8 +96,7 @@ pub extern "C" fn winch_step(pool: &mut [u32], task: u32, answer: &mut [u32]) ->
     say(answer, r)
 }
 
-#[unsafe(no_mangle)]
-pub extern "C" fn winch_release(pool: &mut [u32], handle: u32, answer: &mut [u32]) -> u32
+pub fn winch_release(pool: &mut [u32], handle: u32, answer: &mut [u32]) -> u32
     ensures { ((pool.new, answer.new), result) ≡ answered_in (λ p. release_in p handle) pool.old answer.old }
 {
     if answer.len() < ANSWER_WORDS {
@@ -122,8 +106,7 @@ pub extern "C" fn winch_release(pool: &mut [u32], handle: u32, answer: &mut [u32
     say(answer, r)
 }
 
-#[unsafe(no_mangle)]
-pub extern "C" fn winch_look_version(pool: &[u32], block: u32, answer: &mut [u32]) -> u32
+pub fn winch_look_version(pool: &[u32], block: u32, answer: &mut [u32]) -> u32
     ensures { (answer.new, result) ≡ shown_in (λ p. look_version_in p block) pool.now answer.old }
 {
     if answer.len() < ANSWER_WORDS {
@@ -133,8 +116,7 @@ pub extern "C" fn winch_look_version(pool: &[u32], block: u32, answer: &mut [u32
     tell(answer, r)
 }
 
-#[unsafe(no_mangle)]
-pub extern "C" fn winch_look_cell(pool: &[u32], block: u32, cell: u32, answer: &mut [u32]) -> u32
+pub fn winch_look_cell(pool: &[u32], block: u32, cell: u32, answer: &mut [u32]) -> u32
     ensures { (answer.new, result) ≡ shown_in (λ p. look_cell_in p block cell) pool.now answer.old }
 {
     if answer.len() < ANSWER_WORDS {
@@ -144,8 +126,7 @@ pub extern "C" fn winch_look_cell(pool: &[u32], block: u32, cell: u32, answer: &
     tell(answer, r)
 }
 
-#[unsafe(no_mangle)]
-pub extern "C" fn winch_look_log(pool: &[u32], block: u32, cell: u32, answer: &mut [u32]) -> u32
+pub fn winch_look_log(pool: &[u32], block: u32, cell: u32, answer: &mut [u32]) -> u32
     ensures { (answer.new, result) ≡ shown_in (λ p. look_log_in p block cell) pool.now answer.old }
 {
     if answer.len() < ANSWER_WORDS {
@@ -155,14 +136,7 @@ pub extern "C" fn winch_look_log(pool: &[u32], block: u32, cell: u32, answer: &m
     tell(answer, r)
 }
 
-#[unsafe(no_mangle)]
-pub extern "C" fn winch_look_entry(
-    pool: &[u32],
-    block: u32,
-    cell: u32,
-    index: u32,
-    answer: &mut [u32],
-) -> u32
+pub fn winch_look_entry(pool: &[u32], block: u32, cell: u32, index: u32, answer: &mut [u32]) -> u32
     ensures { (answer.new, result) ≡ shown_in (λ p. look_entry_in p block cell index) pool.now answer.old }
 {
     if answer.len() < ANSWER_WORDS {
@@ -172,8 +146,7 @@ pub extern "C" fn winch_look_entry(
     tell(answer, r)
 }
 
-#[unsafe(no_mangle)]
-pub extern "C" fn winch_look_task(pool: &[u32], task: u32, answer: &mut [u32]) -> u32
+pub fn winch_look_task(pool: &[u32], task: u32, answer: &mut [u32]) -> u32
     ensures { (answer.new, result) ≡ shown_in (λ p. look_task_in p task) pool.now answer.old }
 {
     if answer.len() < ANSWER_WORDS {
@@ -183,8 +156,7 @@ pub extern "C" fn winch_look_task(pool: &[u32], task: u32, answer: &mut [u32]) -
     tell(answer, r)
 }
 
-#[unsafe(no_mangle)]
-pub extern "C" fn winch_report(pool: &[u32], answer: &mut [u32]) -> u32
+pub fn winch_report(pool: &[u32], answer: &mut [u32]) -> u32
     ensures { (answer.new, result) ≡ shown_in report_in pool.now answer.old }
 {
     if answer.len() < ANSWER_WORDS {
@@ -194,8 +166,7 @@ pub extern "C" fn winch_report(pool: &[u32], answer: &mut [u32]) -> u32
     tell(answer, r)
 }
 
-#[unsafe(no_mangle)]
-pub extern "C" fn winch_check(pool: &[u32], answer: &mut [u32]) -> u32
+pub fn winch_check(pool: &[u32], answer: &mut [u32]) -> u32
     ensures { (answer.new, result) ≡ shown_in (λ p. reply.Shown (broken_in p)) pool.now answer.old }
 {
     if answer.len() < ANSWER_WORDS {

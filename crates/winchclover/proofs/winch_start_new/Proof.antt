@@ -1,4 +1,4 @@
-use Rattle.winchclover.specs.Answered.{answers}
+use Rattle.winchclover.proofs.Telling.{answers}
 use borrow.Author.Rules.{rules}
 use Rattle.winchclover.proofs.winch_start_new.Statement.{statement}
 use Rattle.winchclover.proofs.winch_start_new.Tie as tie

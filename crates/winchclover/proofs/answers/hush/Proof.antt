@@ -1,4 +1,4 @@
-use Rattle.winchclover.specs.Answered.{words-hushed}
+use Rattle.winchclover.proofs.Telling.{words-hushed}
 use lib.ListN.{length-set}
 use native.Mathlib.Omega.{arith}
 use borrow.Author.Rules.{rules}

@@ -1,4 +1,4 @@
-use Rattle.winchclover.specs.Answered.{words-listed}
+use Rattle.winchclover.proofs.Telling.{words-listed}
 use lib.ListN.{length-set}
 use native.Mathlib.Omega.{arith}
 use borrow.Author.Rules.{rules}

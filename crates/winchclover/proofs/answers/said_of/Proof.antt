@@ -1,4 +1,4 @@
-use Rattle.winchclover.specs.Answered.{answers}
+use Rattle.winchclover.proofs.Telling.{answers}
 use Rattle.acts.specs.Said.{few_said, said_of}
 use borrow.Author.Rules.{rules}
 use Rattle.winchclover.proofs.answers.said_of.Statement.{statement}

@@ -1,4 +1,4 @@
-use Rattle.winchclover.specs.Answered.{answers}
+use Rattle.winchclover.proofs.Telling.{answers}
 use borrow.Author.Rules.{rules}
 use Rattle.winchclover.proofs.answers.said_of_task.Statement.{statement}
 use Rattle.winchclover.proofs.answers.said_of_task.Tie as tie

@@ -1,4 +1,4 @@
-use Rattle.winchclover.specs.Answered.{answers}
+use Rattle.winchclover.proofs.Telling.{answers}
 use borrow.Author.Rules.{rules}
 use Rattle.winchclover.proofs.answers.say.Statement.{statement}
 use Rattle.winchclover.proofs.answers.say.Tie as tie

@@ -4,11 +4,11 @@ use Rattle.std.specs.Prelude.{◌≤◌, ℕ, List, ◌∷◌, ◌≡◌, refl, 
 use Rattle.std.proofs.Common.{◌∙◌, ap, sym, le-ltb}
 use Rattle.std.proofs.Math.Path.{subst⁻¹}
 use Rattle.survey.specs.Broken.{broken_in}
-use Rattle.audit.specs.Check.{broken-first, passes_sound, sound_passes}
+use Rattle.audit.proofs.Checks.{broken-first, passes_sound, sound_passes}
 use Rattle.rulebook.specs.State.{list_to}
 use Rattle.promises.specs.Promises.{CheckPasses, CheckSound, CheckTells, Kept, pool_last}
-use Rattle.promises.specs.Proofs.Calls.{spoken-long}
-use Rattle.promises.specs.Proofs.Two.{stays_sound}
+use Rattle.promises.proofs.Calls.{spoken-long}
+use Rattle.promises.proofs.Two.{stays_sound}
 use Rattle.promises.specs.Said.{Check, Outcome, spoken}
 
 -- what comes of a check on the pool p that tells r

@@ -1,6 +1,6 @@
 -- Demand 1: which number is returned: on any pool before the store is looked at, on a pool that passes the check by document 01's table; and what 10 leaves and tells.
 -- Rests on Calls, the bridge and the machine's theorems.
-use Rattle.std.specs.Prelude.{◌+◌, ◌≤◌, ℕ, Bool, false, List, [], ◌∷◌, refl, eqb, leb, length, replicate, take}
+use Rattle.std.specs.Prelude.{◌+◌, ◌≤◌, ℕ, Bool, false, List, [], ◌∷◌, refl, eqb, leb, length, replicate, take, if◌then◌else◌}
 use Rattle.std.proofs.Common.{true≢false, ◌∙◌, ap, sym, arith, get_or-take, le-ltb}
 use Rattle.std.proofs.Math.Path.{◌≡◌, subst⁻¹}
 use Rattle.std.proofs.lemmas.Bool.{eqb-false}
@@ -28,21 +28,21 @@ use Rattle.rulebook.specs.declared.Status.TheVariants.{Live}
 use Rattle.rulebook.specs.declared.Task.{Task}
 use Rattle.rulebook.specs.Machine as machine
 use Rattle.rulebook.specs.Machine.{call}
-use Rattle.rulebook.specs.Sizes.{if◌then◌else◌, opens, room}
+use Rattle.rulebook.specs.Sizes.{opens, room}
 use Rattle.rulebook.specs.State.{Result, State, free_block, list_to, slot_at, task_at}
 use Rattle.rulebook.specs.Steps.{counted, exchanged, finished, got_copy, got_get, got_page, here_of, no_room, step, step_at, taken}
 use Rattle.rulebook.specs.Tests.{by_test, if_case}
 use Rattle.rules.specs.Blind.{erase_call_lem}
 use Rattle.rules.specs.Erase.{erase, erase-shape}
-use Rattle.rules.specs.Kept.{rules-inv}
+use Rattle.rules.proofs.Kept.{rules-inv}
 use Rattle.rules.specs.Rules.{Rules}
 use Rattle.theorems.specs.Invariant.Shape.{Shape}
 use Rattle.theorems.specs.Invariant.Steps.{inv-step}
-use Rattle.theorems.specs.Proofs.Causes.{fits-call}
+use Rattle.theorems.proofs.Causes.{fits-call}
 use Rattle.theorems.specs.Proofs.Ten as ten
 use Rattle.theorems.specs.Terms.{Every, Harmless, causes, due, more, none}
 use Rattle.promises.specs.Promises.{MachineCall, OpenDue, RefusalDue, TenHarmless, Undescribed}
-use Rattle.promises.specs.Proofs.Calls.{spoken_case, spoken-long, telling}
+use Rattle.promises.proofs.Calls.{spoken_case, spoken-long, telling}
 use Rattle.promises.specs.Said.{Ask, Build, Check, Outcome, answer_after, is_open, number_of, pool_after, spoken, state_in, word_of}
 
 -- ---- before the store is looked at

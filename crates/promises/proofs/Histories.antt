@@ -1,6 +1,6 @@
 -- A list of calls as C makes them is bridge's list of those that the machine has, with a slice that is not short; what a caller notes of them is the machine's history.
 -- Rests on Calls and on the bridge.
-use Rattle.std.specs.Prelude.{ℕ, List, [], ◌∷◌, ◌≡◌, refl}
+use Rattle.std.specs.Prelude.{ℕ, List, [], ◌∷◌, ◌≡◌, refl, if◌then◌else◌}
 use Rattle.std.proofs.Common.{◌∙◌, sym}
 use Rattle.std.proofs.Math.Path.{ap, ap₂}
 use Rattle.bridge.specs.Asked.{Asked, Bridged, Get, LookCell, LookEntry, LookLog, LookTask, LookVersion, New, Open, Page, Release, Report, Set, Step, asked, asked_all, call_of, calls_of, sizes_after}
@@ -13,11 +13,10 @@ use Rattle.rulebook.specs.declared.Reply.{Reply}
 use Rattle.rulebook.specs.declared.Sizes.{Sizes}
 use Rattle.rulebook.specs.History.{Past, Work, accepted, making, next, noted, onward, paging, reading, resting, setting, stepped}
 use Rattle.rulebook.specs.Machine.{Call, call}
-use Rattle.rulebook.specs.Sizes.{if◌then◌else◌}
 use Rattle.rulebook.specs.State.{State, list_to}
 use Rattle.rulebook.specs.Tests.{by_test}
-use Rattle.theorems.specs.Proofs.Follows.{next-store}
-use Rattle.promises.specs.Proofs.Calls.{spoken_case, spoken-long, spoken-short, telling}
+use Rattle.theorems.proofs.Follows.{next-store}
+use Rattle.promises.proofs.Calls.{spoken_case, spoken-long, spoken-short, telling}
 use Rattle.promises.specs.Said.{Ask, Check, Outcome, Request, Spoken, amounts, aside, calls_in, noted_all, noted_by, notes, pool_after, pool_all, short, spoken, state_in, state_under, stepped_by, tellings, tells, told, told_all}
 
 -- ---- the list without the checks and the calls that are nothing

@@ -1,11 +1,11 @@
 -- The product keeps every promise.
 -- Rests on One, Numbers, Two, Three and Checked.
 use Rattle.promises.specs.Promised.{Promised}
-use Rattle.promises.specs.Proofs.Checked.{check_passes, check_sound, check_tells}
-use Rattle.promises.specs.Proofs.Numbers.{open_due, refusal_due, ten_harmless, undescribed}
-use Rattle.promises.specs.Proofs.One.{answer_length, answer_rest, pool_length, pool_rest, refusal_keeps, refusal_zeros, short_slice}
-use Rattle.promises.specs.Proofs.Three.{busy_below, priced, sets_bounded, steps_counted, steps_exact}
-use Rattle.promises.specs.Proofs.Two.{machine_answers, machine_call, machine_history, machine_state, numbers_once, pages_join, pages_join_any, reads, reads_in_order, stays_sound, tables}
+use Rattle.promises.proofs.Checked.{check_passes, check_sound, check_tells}
+use Rattle.promises.proofs.Numbers.{open_due, refusal_due, ten_harmless, undescribed}
+use Rattle.promises.proofs.One.{answer_length, answer_rest, pool_length, pool_rest, refusal_keeps, refusal_zeros, short_slice}
+use Rattle.promises.proofs.Three.{busy_below, priced, sets_bounded, steps_counted, steps_exact}
+use Rattle.promises.proofs.Two.{machine_answers, machine_call, machine_history, machine_state, numbers_once, pages_join, pages_join_any, reads, reads_in_order, stays_sound, tables}
 use Rattle.promises.specs.Said.{spoken}
 
 pub promised : Promised spoken

@@ -18,11 +18,11 @@ use Rattle.rulebook.specs.Machine.{Call, call}
 use Rattle.rulebook.specs.Sizes.{opens}
 use Rattle.rulebook.specs.State.{Result, State, list_to, live_handle}
 use Rattle.rulebook.specs.Tests.{by_test}
-use Rattle.theorems.specs.Demands as theorems
+use Rattle.theorems.proofs.Demands as theorems
 use Rattle.theorems.specs.Terms.{Every, HasGiven, In, IsRead, Once, by_cell, cells_of, on_version, shown, up_to, values_of}
 use Rattle.promises.specs.Promises.{Kept, MachineAnswers, MachineCall, MachineHistory, MachineState, NumbersOnce, PagesJoin, PagesJoinAny, Reads, ReadsInOrder, StaysSound, Tables, diary, machine_calls, machine_first, pool_first}
-use Rattle.promises.specs.Proofs.Calls.{spoken_case, spoken-long}
-use Rattle.promises.specs.Proofs.Histories.{calls-all, heeded, noted_all_lem, pool_all_lem, sound-state, told_all_lem}
+use Rattle.promises.proofs.Calls.{spoken_case, spoken-long}
+use Rattle.promises.proofs.Histories.{calls-all, heeded, noted_all_lem, pool_all_lem, sound-state, told_all_lem}
 use Rattle.promises.specs.Said.{Ask, Outcome, spoken, state_in, tellings, tells, told}
 
 -- ---- a pool that passes the check

@@ -31,8 +31,8 @@ use Rattle.rulebook.specs.State.{list_to}
 use Rattle.rulebook.specs.Tests.{by_test}
 use Rattle.work.specs.Reach.{get_reaches, new_reaches, page_reaches, release_reaches, set_reaches, step_reaches}
 use Rattle.promises.specs.Promises.{AnswerLength, AnswerRest, PoolLength, PoolRest, RefusalKeeps, RefusalZeros, ShortSlice}
-use Rattle.promises.specs.Proofs.Calls.{heard, spoken_case, spoken-long, spoken-short, telling}
-use Rattle.promises.specs.Proofs.Refusals.{Fair, get-fair, new-fair, page-fair, release-fair, set-fair, step-fair}
+use Rattle.promises.proofs.Calls.{heard, spoken_case, spoken-long, spoken-short, telling}
+use Rattle.promises.proofs.Refusals.{Fair, get-fair, new-fair, page-fair, release-fair, set-fair, step-fair}
 use Rattle.promises.specs.Said.{Ask, Check, Outcome, Request, store_of, spoken}
 
 -- ---- what a call does to the pool's words

@@ -4,10 +4,10 @@ use Rattle.std.specs.Prelude.{◌<◌, ◌≤◌, ℕ, true, ◌≡◌}
 use Rattle.rulebook.specs.Answers.{operation}
 use Rattle.rulebook.specs.History.{Ended, Past, sets_bound, work_code}
 use Rattle.rulebook.specs.State.{busy, task_at}
-use Rattle.theorems.specs.Demands as theorems
+use Rattle.theorems.proofs.Demands as theorems
 use Rattle.theorems.specs.Terms.{Every, Spent, price}
 use Rattle.promises.specs.Promises.{BusyBelow, Kept, Priced, SetsBound, StepsCounted, StepsExact, machine_calls, machine_first}
-use Rattle.promises.specs.Proofs.Two.{as_noted, first-opened}
+use Rattle.promises.proofs.Two.{as_noted, first-opened}
 use Rattle.promises.specs.Said.{spoken}
 
 module _ (k : Kept spoken) where

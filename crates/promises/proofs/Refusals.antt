@@ -1,6 +1,6 @@
 -- Every plan either does nothing and refuses, or is answered 0 or 10; so a refusal other than 10 changes no word, whatever the pool's words are.
 -- Rests on the plans.
-use Rattle.std.specs.Prelude.{◌+◌, ℕ, ◌||◌, not, true, ◌⊎◌, ◌≡◌, eqb, leb}
+use Rattle.std.specs.Prelude.{◌+◌, ℕ, ◌||◌, not, true, ◌⊎◌, ◌≡◌, eqb, leb, if◌then◌else◌}
 use Rattle.std.proofs.Math.Logic.{inl}
 use Rattle.std.proofs.Common.{inr}
 use Rattle.std.proofs.Math.Path.{refl}
@@ -29,7 +29,7 @@ use Rattle.rulebook.specs.declared.Stage.{Stage}
 use Rattle.rulebook.specs.declared.Stage.TheVariants as stage
 use Rattle.rulebook.specs.declared.Task.{Task}
 use Rattle.rulebook.specs.History.{accepted}
-use Rattle.rulebook.specs.Sizes.{if◌then◌else◌, last_serial, slot_of}
+use Rattle.rulebook.specs.Sizes.{last_serial, slot_of}
 use Rattle.rulebook.specs.Tests.{if_case}
 
 -- answered 0 or 10, or nothing is done and a number is given

@@ -1,0 +1,144 @@
+// The functions that C calls: each is winchclover's of the same name, with its clauses.
+#![tactic(auto)]
+
+ghost use Rattle.std.specs.Prelude.{◌≡◌};
+ghost use Rattle.survey.specs.Broken.{broken_in};
+ghost use Rattle.layout.specs.Pool.{open_in};
+ghost use Rattle.layout.specs.Calls.{start_new_in, start_get_in, start_set_in, start_page_in, step_in, release_in, look_version_in, look_cell_in, look_log_in, look_entry_in, look_task_in, report_in};
+ghost use Rattle.rulebook.specs.declared.Reply.TheVariants as reply;
+ghost use Rattle.winchclover.specs.Answered.{answered_in, shown_in};
+
+#[unsafe(no_mangle)]
+pub extern "C" fn winch_open(
+    pool: &mut [u32],
+    cells: u32,
+    handles: u32,
+    tasks: u32,
+    answer: &mut [u32],
+) -> u32
+    ensures { ((pool.new, answer.new), result) ≡ answered_in (λ p. open_in p cells handles tasks) pool.old answer.old }
+{
+    winchclover::winch_open(pool, cells, handles, tasks, answer)
+}
+
+#[unsafe(no_mangle)]
+pub extern "C" fn winch_start_new(
+    pool: &mut [u32],
+    task: u32,
+    value: u32,
+    answer: &mut [u32],
+) -> u32
+    ensures { ((pool.new, answer.new), result) ≡ answered_in (λ p. start_new_in p task value) pool.old answer.old }
+{
+    winchclover::winch_start_new(pool, task, value, answer)
+}
+
+#[unsafe(no_mangle)]
+pub extern "C" fn winch_start_get(
+    pool: &mut [u32],
+    task: u32,
+    handle: u32,
+    cell: u32,
+    answer: &mut [u32],
+) -> u32
+    ensures { ((pool.new, answer.new), result) ≡ answered_in (λ p. start_get_in p task handle cell) pool.old answer.old }
+{
+    winchclover::winch_start_get(pool, task, handle, cell, answer)
+}
+
+#[unsafe(no_mangle)]
+pub extern "C" fn winch_start_set(
+    pool: &mut [u32],
+    task: u32,
+    handle: u32,
+    cell: u32,
+    value: u32,
+    answer: &mut [u32],
+) -> u32
+    ensures { ((pool.new, answer.new), result) ≡ answered_in (λ p. start_set_in p task handle cell value) pool.old answer.old }
+{
+    winchclover::winch_start_set(pool, task, handle, cell, value, answer)
+}
+
+#[unsafe(no_mangle)]
+pub extern "C" fn winch_start_page(
+    pool: &mut [u32],
+    task: u32,
+    handle: u32,
+    from: u32,
+    count: u32,
+    answer: &mut [u32],
+) -> u32
+    ensures { ((pool.new, answer.new), result) ≡ answered_in (λ p. start_page_in p task handle from count) pool.old answer.old }
+{
+    winchclover::winch_start_page(pool, task, handle, from, count, answer)
+}
+
+#[unsafe(no_mangle)]
+pub extern "C" fn winch_step(pool: &mut [u32], task: u32, answer: &mut [u32]) -> u32
+    ensures { ((pool.new, answer.new), result) ≡ answered_in (λ p. step_in p task) pool.old answer.old }
+{
+    winchclover::winch_step(pool, task, answer)
+}
+
+#[unsafe(no_mangle)]
+pub extern "C" fn winch_release(pool: &mut [u32], handle: u32, answer: &mut [u32]) -> u32
+    ensures { ((pool.new, answer.new), result) ≡ answered_in (λ p. release_in p handle) pool.old answer.old }
+{
+    winchclover::winch_release(pool, handle, answer)
+}
+
+#[unsafe(no_mangle)]
+pub extern "C" fn winch_look_version(pool: &[u32], block: u32, answer: &mut [u32]) -> u32
+    ensures { (answer.new, result) ≡ shown_in (λ p. look_version_in p block) pool.now answer.old }
+{
+    winchclover::winch_look_version(pool, block, answer)
+}
+
+#[unsafe(no_mangle)]
+pub extern "C" fn winch_look_cell(pool: &[u32], block: u32, cell: u32, answer: &mut [u32]) -> u32
+    ensures { (answer.new, result) ≡ shown_in (λ p. look_cell_in p block cell) pool.now answer.old }
+{
+    winchclover::winch_look_cell(pool, block, cell, answer)
+}
+
+#[unsafe(no_mangle)]
+pub extern "C" fn winch_look_log(pool: &[u32], block: u32, cell: u32, answer: &mut [u32]) -> u32
+    ensures { (answer.new, result) ≡ shown_in (λ p. look_log_in p block cell) pool.now answer.old }
+{
+    winchclover::winch_look_log(pool, block, cell, answer)
+}
+
+#[unsafe(no_mangle)]
+pub extern "C" fn winch_look_entry(
+    pool: &[u32],
+    block: u32,
+    cell: u32,
+    index: u32,
+    answer: &mut [u32],
+) -> u32
+    ensures { (answer.new, result) ≡ shown_in (λ p. look_entry_in p block cell index) pool.now answer.old }
+{
+    winchclover::winch_look_entry(pool, block, cell, index, answer)
+}
+
+#[unsafe(no_mangle)]
+pub extern "C" fn winch_look_task(pool: &[u32], task: u32, answer: &mut [u32]) -> u32
+    ensures { (answer.new, result) ≡ shown_in (λ p. look_task_in p task) pool.now answer.old }
+{
+    winchclover::winch_look_task(pool, task, answer)
+}
+
+#[unsafe(no_mangle)]
+pub extern "C" fn winch_report(pool: &[u32], answer: &mut [u32]) -> u32
+    ensures { (answer.new, result) ≡ shown_in report_in pool.now answer.old }
+{
+    winchclover::winch_report(pool, answer)
+}
+
+#[unsafe(no_mangle)]
+pub extern "C" fn winch_check(pool: &[u32], answer: &mut [u32]) -> u32
+    ensures { (answer.new, result) ≡ shown_in (λ p. reply.Shown (broken_in p)) pool.now answer.old }
+{
+    winchclover::winch_check(pool, answer)
+}
