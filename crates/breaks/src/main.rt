@@ -1,5 +1,8 @@
 // The check on a store that it passes, and on copies of it in which each rule in turn is broken.
+#![tactic(auto)]
+
 use print::{number, text};
+use std::io;
 
 // Where the words of a store of 2 cells, 4 handles and 2 tasks lie.
 const SLOT_0: usize = 16;
@@ -53,91 +56,92 @@ fn fill(words: &mut [u32]) {
     store::start_get(words, 1, c, 0);
 }
 
-fn tell(at: usize, old: u32, new: u32) {
-    text(b" word ");
-    number(at as u64);
-    text(b" from ");
-    number(old as u64);
-    text(b" to ");
-    number(new as u64);
-    text(b",");
+fn tell(rt: &impl Print, at: usize, old: u32, new: u32) -> io::Result<()> {
+    text(rt, b" word ")?;
+    number(rt, at as u64)?;
+    text(rt, b" from ")?;
+    number(rt, old as u64)?;
+    text(rt, b" to ")?;
+    number(rt, new as u64)?;
+    text(rt, b",")
 }
 
-fn change(words: &mut [u32], at: usize, x: u32) {
+fn change(rt: &impl Print, words: &mut [u32], at: usize, x: u32) -> io::Result<()> {
     if at < words.len() {
-        tell(at, words[at], x);
+        tell(rt, at, words[at], x)?;
         words[at] = x;
     }
+    Ok(())
 }
 
-fn answer(words: &[u32]) {
-    text(b" the check answers ");
-    number(audit::check(words) as u64);
-    text(b"\n");
+fn answer(rt: &impl Print, words: &[u32]) -> io::Result<()> {
+    text(rt, b" the check answers ")?;
+    number(rt, audit::check(words) as u64)?;
+    text(rt, b"\n")
 }
 
-fn header(words: &mut [u32]) {
-    text(b"rule 1, the header describes the pool:");
-    change(words, 5, 7);
-    answer(words);
+fn header(rt: &impl Print, words: &mut [u32]) -> io::Result<()> {
+    text(rt, b"rule 1, the header describes the pool:")?;
+    change(rt, words, 5, 7)?;
+    answer(rt, words)
 }
 
-fn handle_outside(words: &mut [u32]) {
-    text(b"rule 2, a handle stands on a block of the pool:");
-    change(words, SLOT_0 + 2, 2);
-    answer(words);
+fn handle_outside(rt: &impl Print, words: &mut [u32]) -> io::Result<()> {
+    text(rt, b"rule 2, a handle stands on a block of the pool:")?;
+    change(rt, words, SLOT_0 + 2, 2)?;
+    answer(rt, words)
 }
 
-fn log_falls(words: &mut [u32]) {
-    text(b"rule 3, versions rise along a log:");
-    change(words, ARENA + 2, 0);
-    answer(words);
+fn log_falls(rt: &impl Print, words: &mut [u32]) -> io::Result<()> {
+    text(rt, b"rule 3, versions rise along a log:")?;
+    change(rt, words, ARENA + 2, 0)?;
+    answer(rt, words)
 }
 
-fn entries_many(words: &mut [u32]) {
-    text(b"rule 4, a block has at most N entries:");
-    change(words, BLOCK_0, 3);
-    change(words, BLOCK_0 + 1, 4);
-    change(words, LENGTHS + 1, 1);
-    change(words, DIRECTORY + 13, 3);
-    change(words, ARENA + 6, 2);
-    answer(words);
+fn entries_many(rt: &impl Print, words: &mut [u32]) -> io::Result<()> {
+    text(rt, b"rule 4, a block has at most N entries:")?;
+    change(rt, words, BLOCK_0, 3)?;
+    change(rt, words, BLOCK_0 + 1, 4)?;
+    change(rt, words, LENGTHS + 1, 1)?;
+    change(rt, words, DIRECTORY + 13, 3)?;
+    change(rt, words, ARENA + 6, 2)?;
+    answer(rt, words)
 }
 
-fn handles_same(words: &mut [u32]) {
-    text(b"rule 5, no two handles share block and number:");
-    change(words, SLOT_1 + 3, 2);
-    answer(words);
+fn handles_same(rt: &impl Print, words: &mut [u32]) -> io::Result<()> {
+    text(rt, b"rule 5, no two handles share block and number:")?;
+    change(rt, words, SLOT_1 + 3, 2)?;
+    answer(rt, words)
 }
 
-fn task_astray(words: &mut [u32]) {
-    text(b"rule 6, a task's handle is live:");
-    change(words, TASK_1 + 1, 2);
-    answer(words);
+fn task_astray(rt: &impl Print, words: &mut [u32]) -> io::Result<()> {
+    text(rt, b"rule 6, a task's handle is live:")?;
+    change(rt, words, TASK_1 + 1, 2)?;
+    answer(rt, words)
 }
 
-fn bump_low(words: &mut [u32]) {
-    text(b"rule 7, the bump counts the places that logs hold:");
-    change(words, BLOCK_0 + 1, 2);
-    answer(words);
+fn bump_low(rt: &impl Print, words: &mut [u32]) -> io::Result<()> {
+    text(rt, b"rule 7, the bump counts the places that logs hold:")?;
+    change(rt, words, BLOCK_0 + 1, 2)?;
+    answer(rt, words)
 }
 
-fn main() {
+fn main(rt: HostRuntime) -> io::Result<()> {
     let mut pool = [0u32; 208];
     fill(&mut pool);
-    text(b"a kept store:");
-    answer(&pool);
+    text(&rt, b"a kept store:")?;
+    answer(&rt, &pool)?;
     let mut one = pool;
-    header(&mut one);
+    header(&rt, &mut one)?;
     let mut two = pool;
-    handle_outside(&mut two);
+    handle_outside(&rt, &mut two)?;
     let mut three = pool;
-    log_falls(&mut three);
+    log_falls(&rt, &mut three)?;
     let mut four = pool;
-    entries_many(&mut four);
+    entries_many(&rt, &mut four)?;
     let mut five = pool;
-    handles_same(&mut five);
+    handles_same(&rt, &mut five)?;
     let mut six = pool;
-    task_astray(&mut six);
-    bump_low(&mut pool);
+    task_astray(&rt, &mut six)?;
+    bump_low(&rt, &mut pool)
 }

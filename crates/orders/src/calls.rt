@@ -6,7 +6,7 @@ use super::model::{
 use super::tally::{ENDED, WRONG, compare, count, count_if, judge};
 
 // The sizes of the store.
-#[derive(Drop)]
+#[derive(Clone, Copy)]
 pub struct Of {
     pub cells: u32,
     pub handles: u32,

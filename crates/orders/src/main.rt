@@ -1,4 +1,6 @@
 // Random orders of many tasks, the store beside a plain model that copies whole tables.
+#![tactic(auto)]
+
 mod calls;
 mod model;
 mod tally;
@@ -6,6 +8,7 @@ mod tally;
 use calls::{Of, release, start, step};
 use model::{Task, at, sum};
 use print::{number, text};
+use std::io;
 use tally::{CALLS, COMPARED, ENDED, WRONG};
 
 // The calls of one run.
@@ -67,29 +70,29 @@ fn turn(
     step(pool, tasks, handles, tables, tally, t);
 }
 
-fn count_of(name: &[u8], tally: &[u32], i: u64) {
-    text(name);
-    number(at(tally, i) as u64);
+fn count_of(rt: &impl Print, name: &[u8], tally: &[u32], i: u64) -> io::Result<()> {
+    text(rt, name)?;
+    number(rt, at(tally, i) as u64)
 }
 
-fn report(tally: &[u32]) {
-    count_of(b"  calls ", tally, CALLS);
-    count_of(b", tasks ended ", tally, ENDED);
-    count_of(b", values compared ", tally, COMPARED);
-    count_of(b", wrong ", tally, WRONG);
-    text(b"\n  refused");
-    count_of(b" 4: ", tally, 4);
-    count_of(b", 5: ", tally, 5);
-    count_of(b", 6: ", tally, 6);
-    count_of(b", 7: ", tally, 7);
-    count_of(b", 8: ", tally, 8);
-    count_of(b", 9: ", tally, 9);
-    count_of(b", 10: ", tally, 10);
-    count_of(b", 11: ", tally, 11);
-    text(b"\n");
+fn report(rt: &impl Print, tally: &[u32]) -> io::Result<()> {
+    count_of(rt, b"  calls ", tally, CALLS)?;
+    count_of(rt, b", tasks ended ", tally, ENDED)?;
+    count_of(rt, b", values compared ", tally, COMPARED)?;
+    count_of(rt, b", wrong ", tally, WRONG)?;
+    text(rt, b"\n  refused")?;
+    count_of(rt, b" 4: ", tally, 4)?;
+    count_of(rt, b", 5: ", tally, 5)?;
+    count_of(rt, b", 6: ", tally, 6)?;
+    count_of(rt, b", 7: ", tally, 7)?;
+    count_of(rt, b", 8: ", tally, 8)?;
+    count_of(rt, b", 9: ", tally, 9)?;
+    count_of(rt, b", 10: ", tally, 10)?;
+    count_of(rt, b", 11: ", tally, 11)?;
+    text(rt, b"\n")
 }
 
-fn run(pool: &mut [u32], of: Of, seed: u32) {
+fn run(rt: &impl Print, pool: &mut [u32], of: Of, seed: u32) -> io::Result<()> {
     let mut tasks = [0u32; 80];
     let mut handles = [0u32; 16];
     let mut tables = [0u32; 256];
@@ -107,24 +110,24 @@ fn run(pool: &mut [u32], of: Of, seed: u32) {
             x,
         );
     }
-    report(&tally);
+    report(rt, &tally)
 }
 
-fn orders(pool: &mut [u32], of: Of, seed: u32) {
+fn orders(rt: &impl Print, pool: &mut [u32], of: Of, seed: u32) -> io::Result<()> {
     let mut answer = [0u32; 16];
     let r = winchclover::winch_open(pool, of.cells, of.handles, of.tasks, &mut answer);
-    text(b"N = ");
-    number(of.cells as u64);
-    text(b", H = ");
-    number(of.handles as u64);
-    text(b", T = ");
-    number(of.tasks as u64);
-    text(b", B = ");
-    number(at(&answer, 0) as u64);
-    text(b", refused ");
-    number(r as u64);
-    text(b"\n");
-    run(pool, of, seed);
+    text(rt, b"N = ")?;
+    number(rt, of.cells as u64)?;
+    text(rt, b", H = ")?;
+    number(rt, of.handles as u64)?;
+    text(rt, b", T = ")?;
+    number(rt, of.tasks as u64)?;
+    text(rt, b", B = ")?;
+    number(rt, at(&answer, 0) as u64)?;
+    text(rt, b", refused ")?;
+    number(rt, r as u64)?;
+    text(rt, b"\n")?;
+    run(rt, pool, of, seed)
 }
 
 fn of(cells: u32, handles: u32, tasks: u32) -> Of {
@@ -135,12 +138,12 @@ fn of(cells: u32, handles: u32, tasks: u32) -> Of {
     }
 }
 
-fn main() {
+fn main(rt: HostRuntime) -> io::Result<()> {
     let mut a = [7u32; 208];
     let mut b = [7u32; 1000];
     let mut c = [7u32; 3600];
-    orders(&mut a, of(2, 4, 2), 1);
-    orders(&mut b, of(5, 12, 4), 2);
-    orders(&mut c, of(16, 16, 16), 3);
-    orders(&mut a, of(1, 2, 2), 4);
+    orders(&rt, &mut a, of(2, 4, 2), 1)?;
+    orders(&rt, &mut b, of(5, 12, 4), 2)?;
+    orders(&rt, &mut c, of(16, 16, 16), 3)?;
+    orders(&rt, &mut a, of(1, 2, 2), 4)
 }

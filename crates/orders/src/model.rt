@@ -15,7 +15,7 @@ pub const SET: u32 = 3;
 
 pub const PAGE: u32 = 4;
 
-#[derive(Drop)]
+#[derive(Clone, Copy)]
 pub struct Task {
     pub operation: u32,
     pub handle: u32,

@@ -1,36 +1,41 @@
 // Text and numbers to standard output.
+#![tactic(auto)]
+
 ghost use Rattle.std.specs.Prelude.{◌<◌};
 
-pub fn text(words: &[u8]) {
-    io::write_all(1, words);
+use std::io;
+
+pub fn text(rt: &impl Print, words: &[u8]) -> io::Result<()> {
+    rt.write_all(words)
 }
 
-fn digit(n: u64) {
+fn digit(rt: &impl Print, n: u64) -> io::Result<()> {
     let all = [b'0', b'1', b'2', b'3', b'4', b'5', b'6', b'7', b'8', b'9'];
     let i = (n % 10) as usize;
     let one = [all[i]];
-    io::write_all(1, &one);
+    rt.write_all(&one)
 }
 
 // The digit that p counts, where n comes so far.
-fn place(n: u64, p: u64)
+fn place(rt: &impl Print, n: u64, p: u64) -> io::Result<()>
     requires { 0 < p }
 {
     if n >= p {
-        digit(n / p);
+        digit(rt, n / p)?;
     }
+    Ok(())
 }
 
 // Every number here has at most ten digits.
-pub fn number(n: u64) {
-    place(n, 1000000000);
-    place(n, 100000000);
-    place(n, 10000000);
-    place(n, 1000000);
-    place(n, 100000);
-    place(n, 10000);
-    place(n, 1000);
-    place(n, 100);
-    place(n, 10);
-    digit(n);
+pub fn number(rt: &impl Print, n: u64) -> io::Result<()> {
+    place(rt, n, 1000000000)?;
+    place(rt, n, 100000000)?;
+    place(rt, n, 10000000)?;
+    place(rt, n, 1000000)?;
+    place(rt, n, 100000)?;
+    place(rt, n, 10000)?;
+    place(rt, n, 1000)?;
+    place(rt, n, 100)?;
+    place(rt, n, 10)?;
+    digit(rt, n)
 }

@@ -5,10 +5,10 @@ use borrow.Author.Rules.{rules}
 use Rattle.orders.proofs.model.fill.Statement.{statement}
 use Rattle.orders.proofs.model.fill.Tie as tie
 
-abbrev invariant_loop : tie.invariant_loop
+abbrev invariant_loop : tie.invariant-loop-i
 invariant_loop tables₀ handle v i₀ tables i = (i ≤ 16) × (length tables ≡ length tables₀)
 
-abbrev decreases_loop : tie.decreases_loop
+abbrev decreases_loop : tie.decreases-loop-i
 decreases_loop tables₀ handle v i₀ tables i = 16 - i
 
 pub fill_spec : {M : Type 1} → statement M

@@ -3,10 +3,10 @@ use borrow.Author.Rules.{rules}
 use Rattle.orders.proofs.model.in_use.Statement.{statement}
 use Rattle.orders.proofs.model.in_use.Tie as tie
 
-abbrev invariant_loop : tie.invariant_loop
+abbrev invariant_loop : tie.invariant-loop-i
 invariant_loop tasks handle i₀ i = (i ≤ 16)
 
-abbrev decreases_loop : tie.decreases_loop
+abbrev decreases_loop : tie.decreases-loop-i
 decreases_loop tasks handle i₀ i = 16 - i
 
 pub in_use_spec : {M : Type 1} → statement M
