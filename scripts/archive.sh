@@ -6,13 +6,10 @@ if [ -n "${ARCHIVE:-}" ]; then
     echo "$ARCHIVE"
     exit 0
 fi
-if ! grep -q '^winchclover:' crates.txt; then
-    echo "there is no archive yet: crates.txt has no crate winchclover" >&2
-    exit 2
-fi
-mkdir -p target/c
-if ! rt staticlib winchclover > target/c/staticlib.log 2>&1; then
+mkdir -p target/c target/staticlib
+if ! (cd crates/winchclover_c && rt lib) > target/c/staticlib.log 2>&1; then
     cat target/c/staticlib.log >&2
     exit 1
 fi
+cp crates/winchclover_c/out/libwinchclover_c.a target/staticlib/libwinchclover.a
 echo target/staticlib/libwinchclover.a

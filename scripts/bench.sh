@@ -12,11 +12,7 @@ if [ -n "${ARCHIVE:-}" ]; then
 fi
 scripts/bench-build.sh target/c/bench "$archive"
 scripts/count.sh target/c/bench > target/c/bench.tsv
-if [ "$(uname -m)" = x86_64 ]; then
-    how="valgrind's callgrind on x86-64"
-else
-    how="the kit's x86-64 emulator, one line of its log for each instruction"
-fi
+how="valgrind's callgrind on x86-64"
 awk -f scripts/report.awk -v how="$how" -v kit="$(rt version)" target/c/bench.tsv > "$docs/BENCHMARK.md"
 awk -f scripts/plot.awk target/c/bench.tsv > "$docs/benchmark.svg"
 sed -n '/^## In short/,/^## /p' "$docs/BENCHMARK.md" | sed '1d;$d'

@@ -1,5 +1,5 @@
 #!/usr/bin/env bash
-# The whole gate: every crate is proved from nothing, its must-fail edits and programs are tried, then the tests in C. The last line is the sum of both,
+# The whole gate: rt ci proves every crate, tries its must-fail edits and runs the programs; then the tests in C. The last line is the sum of both,
 # 'N passed, M failed'.
 set -uo pipefail
 cd "$(dirname "$0")/.." || exit 2
@@ -22,8 +22,20 @@ part() {
     [ "$one" -eq 0 ] || status=1
 }
 
-# more at a time than there are processors: a round of edits ends with its slowest
-part env RT_JOBS="${RT_JOBS:-4}" rt ci
+# an edit that cannot be applied or read is no verdict: rt ci passes it, the gate does not
+proofs() {
+    local one
+    rt ci 2>&1 | tee target/proofs.log
+    one=${PIPESTATUS[0]}
+    if grep -qE '^rt: (ok.*, [0-9]+ bad|must-fail .*: BAD EDIT)' target/proofs.log; then
+        echo '0 passed, 1 failed'
+        return 1
+    fi
+    return "$one"
+}
+
+mkdir -p target
+part proofs
 part make --no-print-directory test
 echo "$passed passed, $failed failed"
 [ $status -eq 0 ] && [ $failed -eq 0 ]

@@ -49,7 +49,7 @@ END {
     print ""
     print "By " how ". Counted are the instructions inside the functions that are measured, and what they call; not the loop"
     print "around them. All four stand in one program and were counted in one run, so their ratios can be compared. Figures from another processor or another"
-    print "way of counting cannot. The C was compiled by the kit's clang with -O2; the archive was made by `rt staticlib` (" kit ")."
+    print "way of counting cannot. The C was compiled by the kit's clang with -O2; the archive was made by `rt lib` (" kit ")."
     print ""
     print "- **(a) array**: a plain array of N words. It has no older version to read and none to copy."
     print "- **(b) tables**: a whole table is copied for each version."

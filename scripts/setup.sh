@@ -8,7 +8,7 @@ need() { command -v "$1" > /dev/null || missing+=("$2"); }
 need cc gcc
 need nm binutils
 [ -e /usr/include/stdio.h ] || missing+=(libc6-dev)
-if [ "${1:-build}" = bench ] && [ "$(uname -m)" = x86_64 ]; then need valgrind valgrind; fi
+if [ "${1:-build}" = bench ]; then need valgrind valgrind; fi
 [ ${#missing[@]} -eq 0 ] && exit 0
 
 as_root=()
