@@ -11,7 +11,7 @@ demo:
 test:
 	@scripts/test.sh
 
-# the same tests against the hand-written C, on this machine's own processor
+# the same tests against the hand-written C
 plain-test:
 	@scripts/test.sh plain
 

@@ -1,5 +1,5 @@
 #!/usr/bin/env bash
-# Builds the benchmark with the archive: bench-build.sh OUT ARCHIVE. Always for x86-64, by the kit's clang, so that every machine counts the same code.
+# Builds the benchmark with the archive, by the kit's clang: bench-build.sh OUT ARCHIVE
 set -euo pipefail
 cd "$(dirname "$0")/.."
 source scripts/kit.sh

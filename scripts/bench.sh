@@ -1,5 +1,5 @@
 #!/usr/bin/env bash
-# Builds the benchmark, counts, and writes docs/BENCHMARK.md and docs/benchmark.svg. Without an archive it says so and stops.
+# Builds the archive and the benchmark, counts, and writes docs/BENCHMARK.md and docs/benchmark.svg.
 set -euo pipefail
 cd "$(dirname "$0")/.."
 scripts/setup.sh bench

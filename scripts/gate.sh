@@ -3,6 +3,8 @@
 # 'N passed, M failed'.
 set -uo pipefail
 cd "$(dirname "$0")/.." || exit 2
+# the tests take the archive that was proved here
+unset ARCHIVE
 status=0 passed=0 failed=0
 log=$(mktemp)
 trap 'rm -f "$log"' EXIT
@@ -22,20 +24,12 @@ part() {
     [ "$one" -eq 0 ] || status=1
 }
 
-# an edit that cannot be applied or read is no verdict: rt ci passes it, the gate does not
-proofs() {
-    local one
-    rt ci 2>&1 | tee target/proofs.log
-    one=${PIPESTATUS[0]}
-    if grep -qE '^rt: (ok.*, [0-9]+ bad|must-fail .*: BAD EDIT)' target/proofs.log; then
-        echo '0 passed, 1 failed'
-        return 1
-    fi
-    return "$one"
-}
-
-mkdir -p target
-part proofs
+part rt ci
+# rt ci passes an edit that cannot be applied or read, and counts it as bad; the gate does not
+if ! grep -E '^rt: ok; ' "$log" | grep -qvE ', [0-9]+ bad'; then
+    echo 'a must-fail edit is bad, or rt ci does not say that none is'
+    status=1 failed=$((failed + 1))
+fi
 part make --no-print-directory test
 echo "$passed passed, $failed failed"
 [ $status -eq 0 ] && [ $failed -eq 0 ]

@@ -48,7 +48,7 @@ pub fn laid(b: &[u32], n: u32) -> bool
     if places(n) < bump {
         return false;
     }
-    // A mark is 0 once its place is taken: an array of zeros would need memset.
+    // A mark is 0 once its place is taken.
     let mut marks = [1u32; PLACES];
     let mut taken: u32 = 0;
     let mut i: u32 = 0;

@@ -9,7 +9,7 @@ use super::{FORM, MARK, control_words};
 use layout::Header;
 use rulebook::Reply;
 
-// The test keeps the compiler from calling memset: the archive needs no other library.
+// The test keeps the compiler from making a call of memset of it: of the archive's functions winch_check alone needs that name.
 fn zero(part: &mut [u32], i: usize)
     requires { i < length part.old }
     ensures { part.new ≡ set part.old i 0 }

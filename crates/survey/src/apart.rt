@@ -10,7 +10,7 @@ ghost use Rattle.survey.specs.Apart.{Told, Unmet};
 use acts::tasks::is_live;
 use rulebook::Sizes;
 
-// No slot and no block. Arrays start with it: an array of zeros would need memset.
+// No slot and no block. Arrays start with it.
 const NONE: u32 = 256;
 
 const MOST_BLOCKS: usize = 256;

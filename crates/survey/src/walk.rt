@@ -8,7 +8,7 @@ ghost use Rattle.survey.specs.Stands.{Marked};
 use super::stands::stood_on;
 use rulebook::Sizes;
 
-// A mark for each version that an entry may have: V is at most N + 1. It is 0 once met: an array of zeros would need memset.
+// A mark for each version that an entry may have: V is at most N + 1. It is 0 once met.
 const VERSIONS: usize = 4097;
 
 // Left at the first entry that breaks the rule.
