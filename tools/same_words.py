@@ -1,16 +1,19 @@
 #!/usr/bin/env python3
 """Lays a tree of the older Rattle beside one of today's, and names what differs by more than spelling.
 
-  same_words.py BEFORE NOW
+  python3 same_words.py BEFORE NOW
 
-Compared are, in their order: the lines of every module of specs/ and of the lemmas in proofs/, where they lie now; the clauses of every function; the rest
-of src/, file by file; imports, as sets of module and name; attributes; must-fail edits; and, byte by byte, what the programs read and print, tests/,
-include/, bench/ and examples/. Left out are the proofs of functions, which the prover judges, and comments.
+Compared are the lines of every module of specs/ and of the lemmas in proofs/, in their order and where they lie now; the clauses of every function, those
+of the exports to C too; that each module is listed now; the rest of src/, file by file; imports, as sets of module and name; attributes but for derives and tactics; must-fail edits; and,
+byte by byte, what the programs read and print, tests/, include/, bench/ and examples/.
 
 Spelling is: a name in snake case where it was in camel case or had dashes (`allowed`), one name for one name in each file; a projection tight or after a
 space, and the brackets that go with it; how a clause names its result and the value behind a reference; layout of src/.
+
+Left out: the proofs of functions, which the prover judges; from which of the kit's modules a word of the kit comes; comments;
+crates.txt; and all but the clauses of a crate that only one tree has.
 """
-import difflib, glob, os, re, sys
+import collections, difflib, glob, os, re, sys
 
 # modules that lie elsewhere now, and those that became two
 MOVED = {f'promises/specs/Proofs/{m}': [f'promises/proofs/{m}'] for m in
@@ -22,9 +25,8 @@ MOVED |= {'audit/specs/Check': ['audit/specs/Check', 'audit/proofs/Checks'],
           'winchclover/specs/Answered': ['winchclover/specs/Answered', 'winchclover/proofs/Telling']}
 BACK = {new.replace('/', '.'): old.replace('/', '.') for old, news in MOVED.items() for new in news}
 # names that could not keep their words: a definition beside them has that name
-GIVEN = {'sets-bound': 'sets_bounded', 'is-free': 'slot_is_free', 'is-reserved': 'slot_is_reserved', 'in-n': 'cell_in_n', 'in-b': 'target_in_b',
-         'in-hand': 'hand_holds', 'not-above': 'serial_not_above'}
-GIVEN |= {o.replace('-', '_'): n for o, n in GIVEN.items()}
+GIVEN = {'sets_bounded': 'sets-bound', 'slot_is_free': 'is-free', 'slot_is_reserved': 'is-reserved', 'cell_in_n': 'in-n', 'target_in_b': 'in-b',
+         'block_in_b': 'in-b', 'hand_holds': 'in-hand', 'serial_not_above': 'not-above'}
 # words of the library that have another name today
 LIBRARY = {'getD': 'get_or', 'leadingZeros': 'count_leading_zeros', 'List·': '', '′': "'"}
 
@@ -37,7 +39,7 @@ def allowed(old, new):
     """Whether a name may have become the other by spelling alone."""
     for a, b in LIBRARY.items():
         old = old.replace(a, b)
-    if old == new or GIVEN.get(old) == new or old == 'if_then_else_' and new == 'if◌then◌else◌':
+    if old == new or new in GIVEN and GIVEN[new] == old or old == 'if_then_else_' and new == 'if◌then◌else◌':
         return True
     if re.search(r'[^\w\'-]', old) and old.replace('_', '◌') == new:
         return True
@@ -49,7 +51,7 @@ def loose(word):
     """A word without what spelling may change, to find the line that it stands in."""
     for a, b in LIBRARY.items():
         word = word.replace(a, b)
-    word = {n: o for o, n in GIVEN.items()}.get(word, word)
+    word = GIVEN.get(word, word)
     return word.removesuffix('_lem').replace('-', '').replace('_', '').replace('◌', '').lower()
 
 
@@ -233,99 +235,133 @@ def source(path):
     return clauses, writable, attributes, words, uses, text
 
 
+def same_clauses(where, before, writable, now, tell, names):
+    """The clauses of two files, by function; how many the first has."""
+    for f in sorted(set(before) | set(now), key=str):
+        place = f'{where} {f}'
+        same_lines(where, [(f'{k} ; {clause(text, writable.get(f, set()))}', place) for k, text in before.get(f, [])],
+                   [(f'{k} ; {text.strip()}', place) for k, text in now.get(f, [])], tell, names)
+    return sum(len(c) for c in before.values())
+
+
 def same_source(where, before, now, own, tell):
-    (c, mut, a, w, u, t), (d, _, b, v, x, s) = source(before), source(now)
-    names = Names()
-    count = 0
-    for f in sorted(set(c) | set(d), key=str):
-        old, new = c.get(f, []), d.get(f, [])
-        count += len(old)
-        facts = []
-        for k, text in old:
-            fact = clause(text, mut.get(f, set()))
-            facts.append((f'{k} ; {fact}', f'{where} {f}'))
-        same_lines(where, facts, [(f'{k} ; {text.strip()}', f'{where} {f}') for k, text in new], tell, names)
-    if a != b:
-        tell(f'{where}: attributes {a} -> {b}')
-    if w != v:
-        for tag, i, j, k, l in difflib.SequenceMatcher(None, w, v, autojunk=False).get_opcodes():
-            if tag != 'equal':
-                tell(f'{where}: {" ".join(w[max(i - 3, 0):i])} [{" ".join(w[i:j])} -> {" ".join(v[k:l])}]')
-    for n in sorted(u ^ x):
-        tell(f'{"-" if n in u else "+"} {where} uses {n}')
-    same_imports(where, imports(t, own, True), imports(s, own, True), tell)
-    return count
+    (clauses, writable, attributes, words, uses, text), (clauses_now, _, attributes_now, words_now, uses_now, text_now) = source(before), source(now)
+    if attributes != attributes_now:
+        tell(f'{where}: attributes {attributes} -> {attributes_now}')
+    for tag, i, j, k, l in difflib.SequenceMatcher(None, words, words_now, autojunk=False).get_opcodes() if words != words_now else []:
+        if tag != 'equal':
+            tell(f'{where}: {" ".join(words[max(i - 3, 0):i])} [{" ".join(words[i:j])} -> {" ".join(words_now[k:l])}]')
+    for n in sorted(uses ^ uses_now):
+        tell(f'{"-" if n in uses else "+"} {where} uses {n}')
+    same_imports(where, imports(text, own, True), imports(text_now, own, True), tell)
+    return same_clauses(where, clauses, writable, clauses_now, tell, Names())
 
 
 # ---- all of it
 
 def antt(path):
-    """The lines of a module but for imports, comments and the list of the modules below it."""
-    out, text = [], open(path, encoding='utf-8').read()
-    for n, line in enumerate(text.split('\n'), 1):
-        s = line.strip()
-        if s and not s.startswith(('--', 'use ', 'pub use ', 'pub mod ', 'mod ')):
-            out.append((line, f'{"/".join(path.split("/")[-3:])}:{n}'))
-    return out, text
+    """The lines of a module but for imports, comments and the list of the modules below it; and its whole text."""
+    text = open(path, encoding='utf-8').read()
+    place = '/'.join(path.split('/')[-3:])
+    lines = [(line, f'{place}:{n}') for n, line in enumerate(text.split('\n'), 1)]
+    return [l for l in lines if l[0].strip() and not l[0].strip().startswith(('--', 'use ', 'pub use ', 'pub mod ', 'mod '))], text
 
 
-def edit(path):
-    return [l for l in open(path, encoding='utf-8').read().split('\n') if l]
+def is_module(path):
+    """Whether a file is a module of specs/ or of lemmas, and not the proof of a function."""
+    return '/specs/' in path or os.path.basename(path) not in ('Proof.antt', 'Answers.antt', 'Invariants.antt')
 
 
-def main(old, new):
-    said, lines, clauses, modules, sources, edits = [], 0, 0, 0, 0, 0
-    tell = said.append
-    crates = [sorted(c for c in os.listdir(f'{r}/crates') if os.path.isdir(f'{r}/crates/{c}/src')) for r in (old, new)]
-    own = set(crates[0]) | set(crates[1])
-    for c in sorted(own):
-        if c not in crates[0] or c not in crates[1]:
-            tell(f'{c}: in one tree only')
-            continue
-        is_lemma = lambda f: '/specs/' in f or '/proofs/' in f and os.path.basename(f) not in ('Proof.antt', 'Answers.antt', 'Invariants.antt')
-        found = [{os.path.relpath(f, f'{r}/crates')[:-5] for f in glob.glob(f'{r}/crates/{c}/**/*.antt', recursive=True) if is_lemma(f) and '/out/' not in f} for r in (old, new)]
+class Comparison:
+    def __init__(self, old, new):
+        self.old, self.new, self.said, self.count = old, new, [], collections.Counter()
+        self.tell = self.said.append
+        self.crates = self.common('crates/*/')
+        self.own = {os.path.basename(c) for r in (old, new) for c in glob.glob(f'{r}/crates/*')}
+
+    def found(self, *patterns):
+        """The paths below each tree, but for what the prover made."""
+        return [{os.path.relpath(f, r) for p in patterns for f in glob.glob(f'{r}/{p}', recursive=True) if '/out/' not in f} for r in (self.old, self.new)]
+
+    def common(self, *patterns):
+        """The paths that both trees have; tells those that one has."""
+        a, b = self.found(*patterns)
+        for p in sorted(a ^ b):
+            self.tell(f'{p}: {"before" if p in a else "now"} only')
+        return sorted(a & b)
+
+    def texts(self, path):
+        return [open(f'{r}/{path}', encoding='utf-8').read() for r in (self.old, self.new)]
+
+    def modules(self, crate):
+        a, b = [{p[len('crates/'):-len('.antt')] for p in ps if is_module(p)} for ps in self.found(f'{crate}/specs/**/*.antt', f'{crate}/proofs/**/*.antt')]
         taken = set()
-        for m in sorted(found[0]):
+        for m in sorted(a):
             to = MOVED.get(m, [m])
-            if m.endswith('/Lib') or not set(to) <= found[1]:
-                # lists of modules: that each is still listed, the prover shows by proving what cites it
-                if antt(f'{old}/crates/{m}.antt')[0]:
-                    tell(f'{m}: gone')
+            before, text = antt(f'{self.old}/crates/{m}.antt')
+            if not set(to) <= b:
+                if before:
+                    self.tell(f'{m}: before only')
                 continue
             taken |= set(to)
-            modules += 1
-            before, text = antt(f'{old}/crates/{m}.antt')
-            now = [antt(f'{new}/crates/{t}.antt') for t in to]
-            lines += len(before)
-            same_lines(m, before, [l for n, _ in now for l in n], tell)
-            back = {(a, b) for _, t in now for a, b in imports(t, own, False)} - {(m.replace('/', '.'), b) for b in re.findall(r"[^\s{},]+", ' '.join(re.findall(r'\{([^}]*)\}', ' '.join(t for _, t in now[1:]))))}
-            same_imports(m, imports(text, own, False), back, tell)
-        for m in sorted(found[1] - taken):
-            if antt(f'{new}/crates/{m}.antt')[0]:
-                tell(f'{m}: new')
-        paths = [{os.path.relpath(f, r) for f in glob.glob(f'{r}/crates/{c}/src/**/*.rt', recursive=True)} for r in (old, new)]
-        for p in sorted(paths[0] ^ paths[1]):
-            tell(f'{p}: in one tree only')
-        for p in sorted(paths[0] & paths[1]):
-            sources += 1
-            clauses += same_source(p[len('crates/'):], f'{old}/{p}', f'{new}/{p}', own, tell)
-        names = [{os.path.relpath(f, r) for f in glob.glob(f'{r}/crates/{c}/must-fail/*')} for r in (old, new)]
-        for p in sorted(names[0] ^ names[1]):
-            tell(f'{p}: in one tree only')
-        for p in sorted(names[0] & names[1]):
-            edits += 1
-            (x, y) = (edit(f'{r}/{p}') for r in (old, new))
+            now = [antt(f'{self.new}/crates/{t}.antt') for t in to]
+            self.count['modules'] += bool(before)
+            self.count['lines'] += len(before)
+            same_lines(m, before, [l for lines, _ in now for l in lines], self.tell)
+            # of a module that became two the second imports the first
+            itself = m.replace('/', '.')
+            same_imports(m, imports(text, self.own, False), {i for _, t in now for i in imports(t, self.own, False) if i[0] != itself}, self.tell)
+        for m in sorted(b):
+            lines, _ = antt(f'{self.new}/crates/{m}.antt')
+            if lines and m not in taken:
+                self.tell(f'{m}: now only')
+            if lines and not self.listed(m):
+                self.tell(f'{m}: in no list of modules')
+
+    def listed(self, module):
+        """Whether the module above names it, so that it is read at all."""
+        above, name = os.path.split(module)
+        above = f'{self.new}/crates/{above}/Lib.antt' if above.count('/') == 1 else f'{self.new}/crates/{above}.antt'
+        return os.path.exists(above) and re.search(rf'(?m)^(pub )?mod {name}$', open(above, encoding='utf-8').read())
+
+    def sources(self, crate):
+        for p in self.common(f'{crate}/src/**/*.rt'):
+            self.count['files of src'] += 1
+            self.count['clauses'] += same_source(p[len('crates/'):], f'{self.old}/{p}', f'{self.new}/{p}', self.own, self.tell)
+
+    def exports(self, before, now):
+        """The functions that C calls, in the crate that exported them and in that which does: their clauses."""
+        (clauses, writable, *_), (clauses_now, *_) = source(f'{self.old}/{before}'), source(f'{self.new}/{now}')
+        self.count['clauses of exports'] += same_clauses(now, {f: c for f, c in clauses.items() if f.startswith('winch_')}, writable, clauses_now, self.tell, Names())
+
+    def edits(self, crate):
+        for p in self.common(f'{crate}/must-fail/*'):
+            self.count['edits'] += 1
+            x, y = self.texts(p)
             # an edit of code is in Rust's words, and the same to the letter
             if x != y:
-                same_lines(p, [(l, p) for l in x], [(l, p) for l in y], tell)
-    kept = ['tests', 'include', 'bench', 'examples'] + [f'crates/{c}/{n}' for c in crates[0] for n in ('stdin', 'stdout', 'args', 'status', 'data')]
-    files = [{os.path.relpath(f, r) for k in kept for f in ([f'{r}/{k}'] if os.path.isfile(f'{r}/{k}') else glob.glob(f'{r}/{k}/**', recursive=True)) if os.path.isfile(f)} for r in (old, new)]
-    for p in sorted(files[0] | files[1]):
-        if p not in files[0] or p not in files[1] or open(f'{old}/{p}', 'rb').read() != open(f'{new}/{p}', 'rb').read():
-            tell(f'{p}: not the same')
-    print('\n'.join(said))
-    print(f'{modules} modules with {lines} lines, {sources} files of src with {clauses} clauses, {edits} edits, {len(files[0])} other files; {len(said)} lines of difference')
+                same_lines(p, *([(l, p) for l in t.split('\n') if l] for t in (x, y)), self.tell)
+
+    def files(self):
+        kept = [f'{d}/**' for d in ('tests', 'include', 'bench', 'examples')] + [f'crates/*/{f}' for f in ('stdin', 'stdout', 'args', 'status', 'data/**')]
+        for p in self.common(*kept):
+            if os.path.isfile(f'{self.old}/{p}'):
+                self.count['other files'] += 1
+                if open(f'{self.old}/{p}', 'rb').read() != open(f'{self.new}/{p}', 'rb').read():
+                    self.tell(f'{p}: not the same')
+
+    def all(self):
+        for c in self.crates:
+            self.modules(c)
+            self.sources(c)
+            self.edits(c)
+        self.exports('crates/winchclover/src/lib.rt', 'crates/winchclover_c/src/lib.rt')
+        self.files()
+        print('\n'.join(self.said))
+        print(', '.join(f'{n:,} {what}' for what, n in self.count.items()) + f' compared; {len(self.said)} lines of difference')
 
 
 if __name__ == '__main__':
-    main(*(p.rstrip('/') for p in sys.argv[1:3]))
+    if len(sys.argv) != 3:
+        sys.exit(__doc__)
+    Comparison(*(p.rstrip('/') for p in sys.argv[1:3])).all()

@@ -106,7 +106,7 @@ module _ (s : State) (sh : Shape s) where
   -- by rule 2 a live handle stands in the pool
   placed-is : Rules s → (j : ℕ) → is_live (slot_at s j).status ≡ true → placed s.sizes (slot_at s j) ≡ live.On (slot_at s j)
   unfolding placed
-  placed-is R j l = let q = live_stood s R j (is_live_lem _ l) in rw (lt-ltb (slot_at s j).block s.sizes.b q.target_in_b, le-leb (slot_at s j).number s.sizes.n q.at_most_n)
+  placed-is R j l = let q = live_stood s R j (is_live_lem _ l) in rw (lt-ltb (slot_at s j).block s.sizes.b q.block_in_b, le-leb (slot_at s j).number s.sizes.n q.at_most_n)
 
   live_is : Rules s → (h : ℕ) → live_in (sight_of s) h ≡ (if live_handle s h then live.On (slot_at s (slot_of h)) else live.Not 7)
   unfolding live_in live_row sight_of live_handle

@@ -44,7 +44,7 @@ module _ (s : State) (h : Rules s) (p : Paced s) (t : ℕ) where
   range-begun a g i v until j l in_n in_until in_h pc =
       let x = live_handle_lem s a l in
       let q = live_stood s h (slot_of a) x.lives in
-      record { slot_below = x.in_h; block_below = q.target_in_b; number_within = q.at_most_n; cell_below = in_n; until_within = in_until; fresh_below = in_h; target_below = (idle-range s p).target_below; hand_below = in_n; pace = pc }
+      record { slot_below = x.in_h; block_below = q.block_in_b; number_within = q.at_most_n; cell_below = in_n; until_within = in_until; fresh_below = in_h; target_below = (idle-range s p).target_below; hand_below = in_n; pace = pc }
 
   paced-new : (v : ℕ) → Fine (start_new s t v)
   unfolding start_new reserve with_slot

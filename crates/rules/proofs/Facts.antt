@@ -41,7 +41,7 @@ unsettled Probe l n w h = h.left
 
 -- where a live handle of number n stands
 pub record Stood (s : State) (b n : ℕ) : Type 0 where
-  pub target_in_b : b < s.sizes.b
+  pub block_in_b : b < s.sizes.b
   pub at_most_n : n ≤ s.sizes.n
   pub at_most_v : n ≤ (block_at s b).version
   pub v_at_most : (block_at s b).version ≤ s.sizes.n + 1
@@ -51,7 +51,7 @@ module _ (s : State) (h : Rules s) where
   pub live_stood : (j : ℕ) → (slot_at s j).status ≡ Live → Stood s (slot_at s j).block (slot_at s j).number
   live_stood j l =
       let v = h.valid in
-      record { target_in_b = v.below_b j l; at_most_n = v.at_most_n j l; at_most_v = v.at_most_v j l; v_at_most = v.v_at_most j l; few = omega (arith, v.few_entries j l) }
+      record { block_in_b = v.below_b j l; at_most_n = v.at_most_n j l; at_most_v = v.at_most_v j l; v_at_most = v.v_at_most j l; few = omega (arith, v.few_entries j l) }
 
   module _ (t : ℕ) where
     abbrev k : Task
