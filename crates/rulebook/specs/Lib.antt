@@ -1,6 +1,7 @@
 pub mod Sizes
 pub mod State
 pub mod Answers
+pub mod Codes
 pub mod Starts
 pub mod Steps
 pub mod Machine

@@ -1,8 +1,14 @@
 // The types that the machine's definitions and the store's code share, in document 01's words.
 #![tactic(auto)]
 
+mod codes;
+mod hands;
+mod slots;
+mod stages;
+mod tasks;
+
 // N, H, T, B: how many cells, handles, tasks and blocks a store has.
-#[derive(Clone, Copy)]
+#[derive(Clone, Copy, Debug, PartialEq, Eq)]
 pub struct Sizes {
     pub n: u32,
     pub h: u32,
@@ -11,13 +17,13 @@ pub struct Sizes {
 }
 
 // One entry of a cell's log: a version, and the cell's old value in it.
-#[derive(Clone, Copy)]
+#[derive(Clone, Copy, Debug, PartialEq, Eq)]
 pub struct Entry {
     pub version: u32,
     pub old: u32,
 }
 
-#[derive(Clone, Copy)]
+#[derive(Clone, Copy, Debug, PartialEq, Eq)]
 pub enum Status {
     Free,
     Reserved,
@@ -25,7 +31,7 @@ pub enum Status {
 }
 
 // A slot: how many handles it has carried, and, while it is live, where its handle stands: the block and the handle's own number L.
-#[derive(Clone, Copy)]
+#[derive(Clone, Copy, Debug, PartialEq, Eq)]
 pub struct Slot {
     pub serial: u32,
     pub status: Status,
@@ -34,7 +40,7 @@ pub struct Slot {
 }
 
 // The steps of a get: each reads the cell (the guess), V, the log's length, or one entry.
-#[derive(Clone, Copy)]
+#[derive(Clone, Copy, Debug, PartialEq, Eq)]
 pub enum Reading {
     Guess,
     Version,
@@ -43,7 +49,7 @@ pub enum Reading {
 }
 
 // What a task's next step does: operation and stage in one, exactly the pairs that occur.
-#[derive(Clone, Copy)]
+#[derive(Clone, Copy, Debug, PartialEq, Eq)]
 pub enum Stage {
     Idle,
     // new
@@ -65,7 +71,7 @@ pub enum Stage {
 }
 
 // The get in hand: its cell, the guess, the bounds of its search, whether there is a candidate, its value and its version.
-#[derive(Clone, Copy)]
+#[derive(Clone, Copy, Debug, PartialEq, Eq)]
 pub struct Hand {
     pub cell: u32,
     pub guess: u32,
@@ -77,7 +83,7 @@ pub struct Hand {
 }
 
 // A get after a step: it goes on with another reading, or it has its answer.
-#[derive(Clone, Copy)]
+#[derive(Clone, Copy, Debug, PartialEq, Eq)]
 pub enum Progress {
     Going(Reading, Hand),
     Settled(Hand),
@@ -85,7 +91,7 @@ pub enum Progress {
 
 // A task. Of the handle that it names: the slot, and the block and number that it took at its start.
 // cell, value: a set's i and v. until: the cell after a page's last. fresh: the slot that it reserved. target: the block that it fills.
-#[derive(Clone, Copy)]
+#[derive(Clone, Copy, Debug, PartialEq, Eq)]
 pub struct Task {
     pub stage: Stage,
     pub slot: u32,
@@ -101,7 +107,7 @@ pub struct Task {
 }
 
 // What a call answers. Specs/Answers.antt gives document 01's refusal number and answer words for every case.
-#[derive(Clone, Copy)]
+#[derive(Clone, Copy, Debug, PartialEq, Eq)]
 pub enum Reply {
     // a refusal but 10: its number
     Refused(u32),
@@ -126,3 +132,7 @@ pub enum Reply {
     // live handles, blocks in use
     Reported(u32, u32),
 }
+
+// A word says what no store has: it is outside the pool or the layout.
+#[derive(Clone, Copy, Debug, PartialEq, Eq)]
+pub struct Damaged;
