@@ -2,13 +2,12 @@
 -- Rests on the rule book's definitions.
 use Rattle.std.specs.Prelude.{◌+◌, [], ◌++◌, ◌∷◌}
 use Rattle.rulebook.specs.State.{Result, State, block_at, log_at, with_block, with_cell, with_log, with_slot, with_task, with_version}
-use Rattle.acts.specs.declared.Act.{Act}
-use Rattle.acts.specs.declared.SlotChange.{SlotChange}
-use Rattle.acts.specs.declared.TaskChange.{TaskChange}
-use Rattle.acts.specs.declared.Touch.{Touch}
-use Rattle.acts.specs.declared.Touch.TheVariants as touch
-use Rattle.acts.specs.declared.SlotChange.TheVariants as slot
-use Rattle.acts.specs.declared.TaskChange.TheVariants as task
+use Rattle.acts.specs.Acts.{Act}
+use Rattle.acts.specs.Acts.{SlotChange}
+use Rattle.acts.specs.Acts.{TaskChange}
+use Rattle.acts.specs.Acts.{Touch}
+use Rattle.acts.specs.Acts as touch
+use Rattle.acts.specs.Acts as change
 
 unfoldable pub touched : State → Touch → State
 touched s touch.Nothing = s
@@ -19,12 +18,12 @@ touched s (touch.Take b) = with_block s b (with_version (block_at s b) 0)
 touched s (touch.Fill b i v) = with_block s b (with_log (with_cell (block_at s b) i v) i [])
 
 unfoldable pub seated : State → SlotChange → State
-seated s slot.Same = s
-seated s (slot.To j x) = with_slot s j x
+seated s change.Same = s
+seated s (change.To j x) = with_slot s j x
 
 unfoldable pub turned : State → TaskChange → State
-turned s task.Same = s
-turned s (task.To t k) = with_task s t k
+turned s change.Same = s
+turned s (change.To t k) = with_task s t k
 
 -- the block first, then the slot, then the task
 unfoldable pub acted : State → Act → Result

@@ -1,3 +1,4 @@
+use Rattle.rulebook.specs.declared.Reply.{Reply}
 pub mod Sight
 pub mod Plans
 pub mod StepPlans
@@ -5,4 +6,4 @@ pub mod Looks
 pub mod Acted
 pub mod Ways
 pub mod Rows
-pub mod Said
+pub mod Reply

@@ -1,9 +1,7 @@
 -- For each function on rows, one law for each way out.
 -- Rests on Plans and Looks.
-use Rattle.std.specs.Prelude.{◌+◌, ◌<◌, ℕ, Bool, ◌&&◌, false, true, ◌≡◌, eqb, ltb}
+use Rattle.std.specs.Prelude.{◌+◌, ◌<◌, ℕ, Bool, ◌&&◌, false, true, ◌≡◌, eqb, ltb, Err, None, Ok, Result, Some}
 use Rattle.std.proofs.Common.{◌∙◌, sym}
-use Rattle.block.specs.declared.Looked.{Looked}
-use Rattle.block.specs.declared.Probed.{Probed}
 use Rattle.rulebook.specs.declared.Entry.{Entry}
 use Rattle.rulebook.specs.declared.Reply.{Reply}
 use Rattle.rulebook.specs.declared.Slot.{Slot}
@@ -12,28 +10,21 @@ use Rattle.rulebook.specs.Sizes.{last_serial}
 use Rattle.rulebook.specs.State.{fills, is_free, is_live, names}
 use Rattle.acts.specs.Looks.{live_at, plus, reports, sees_row, shows, shows_entry}
 use Rattle.acts.specs.Plans.{filler, found_if, naming, standing, unheld, vacant}
-use Rattle.acts.specs.declared.Counted.{Counted}
-use Rattle.acts.specs.declared.Found.{Found}
-use Rattle.acts.specs.declared.SlotRow.{SlotRow}
-use Rattle.acts.specs.declared.TaskRow.{TaskRow}
-use Rattle.block.specs.declared.Looked.TheVariants as looked
-use Rattle.block.specs.declared.Probed.TheVariants as probed
-use Rattle.acts.specs.declared.SlotRow.TheVariants as slotrow
-use Rattle.acts.specs.declared.TaskRow.TheVariants as taskrow
-use Rattle.acts.specs.declared.Found.TheVariants as found
-use Rattle.acts.specs.declared.Counted.TheVariants as count
+use Rattle.acts.specs.Acts.{Found}
 use Rattle.rulebook.specs.declared.Reply.TheVariants as reply
+use Rattle.rulebook.specs.Codes.{damaged}
+use Rattle.rulebook.specs.declared.Damaged.{Damaged}
 
 -- nothing was found
 abbrev pub is_none : Found → Bool
-is_none found.Bad = false
-is_none (found.At j) = false
-is_none found.None = true
+is_none (Err _) = false
+is_none (Ok (Some j)) = false
+is_none (Ok None) = true
 
 -- a count that may grow
-abbrev pub CountBelow : Counted → Type 0
-CountBelow count.Bad = Unit
-CountBelow (count.Of m) = m < 4294967295
+abbrev pub CountBelow : Result ℕ Damaged → Type 0
+CountBelow (Err _) = Unit
+CountBelow (Ok m) = m < 4294967295
 
 -- ---- tests that follow each other
 
@@ -45,137 +36,137 @@ module _ (a b r x : Bool) where
   and_no e f = rw (sym e ∙ f)
 
 module _ (b : Bool) (j : ℕ) where
-  pub found-yes : b ≡ true → found.At j ≡ found_if b j
+  pub found-yes : b ≡ true → Ok (Some j) ≡ found_if b j
   found-yes e = rw e
 
-  pub found-no : b ≡ false → found.None ≡ found_if b j
+  pub found-no : b ≡ false → Ok None ≡ found_if b j
   found-no e = rw e
 
 module _ (x : Found) (b : ℕ) where
-  pub unheld-bad : x ≡ found.Bad → found.Bad ≡ unheld x b
+  pub unheld-bad : x ≡ Err damaged → Err damaged ≡ unheld x b
   unfolding unheld
   unheld-bad e = rw e
 
-  pub unheld_not : (j : ℕ) → x ≡ found.At j → found.None ≡ unheld x b
+  pub unheld_not : (j : ℕ) → x ≡ Ok (Some j) → Ok None ≡ unheld x b
   unfolding unheld
   unheld_not j e = rw e
 
-  pub unheld-is : x ≡ found.None → found.At b ≡ unheld x b
+  pub unheld-is : x ≡ Ok None → Ok (Some b) ≡ unheld x b
   unfolding unheld
   unheld-is e = rw e
 
-  pub sum-bad : x ≡ found.Bad → count.Bad ≡ plus (count.Of b) x
+  pub sum-bad : x ≡ Err damaged → Err damaged ≡ plus (Ok b) x
   unfolding plus
   sum-bad e = rw e
 
-  pub sum_more : (j : ℕ) → x ≡ found.At j → count.Of (b + 1) ≡ plus (count.Of b) x
+  pub sum_more : (j : ℕ) → x ≡ Ok (Some j) → Ok (b + 1) ≡ plus (Ok b) x
   unfolding plus
   sum_more j e = rw e
 
-  pub sum_same : x ≡ found.None → count.Of b ≡ plus (count.Of b) x
+  pub sum_same : x ≡ Ok None → Ok b ≡ plus (Ok b) x
   unfolding plus
   sum_same e = rw e
 
 -- ---- looks
 
-pub show-bad : (x : Looked) → x ≡ looked.Bad → reply.Refused 2 ≡ shows x
+pub show-bad : (x : Result ℕ Damaged) → x ≡ Err damaged → reply.Refused 2 ≡ shows x
 unfolding shows
 show-bad x e = rw e
 
-pub show-word : (x : Looked) (v : ℕ) → x ≡ looked.Word v → reply.Shown v ≡ shows x
+pub show-word : (x : Result ℕ Damaged) (v : ℕ) → x ≡ Ok v → reply.Shown v ≡ shows x
 unfolding shows
 show-word x v e = rw e
 
-pub show-none : (x : Probed) → x ≡ probed.Bad → reply.Refused 2 ≡ shows_entry x
+pub show-none : (x : Result Entry Damaged) → x ≡ Err damaged → reply.Refused 2 ≡ shows_entry x
 unfolding shows_entry
 show-none x e = rw e
 
-pub show-entry : (x : Probed) (e : Entry) → x ≡ probed.Found e → reply.ShownEntry e ≡ shows_entry x
+pub show-entry : (x : Result Entry Damaged) (e : Entry) → x ≡ Ok e → reply.ShownEntry e ≡ shows_entry x
 unfolding shows_entry
 show-entry x e q = rw q
 
-pub see_bad : (x : TaskRow) → x ≡ taskrow.Bad → reply.Refused 2 ≡ sees_row x
+pub see_bad : (x : Result Task Damaged) → x ≡ Err damaged → reply.Refused 2 ≡ sees_row x
 unfolding sees_row
 see_bad x e = rw e
 
-pub see_row : (x : TaskRow) (k : Task) → x ≡ taskrow.Row k → reply.ShownTask k ≡ sees_row x
+pub see_row : (x : Result Task Damaged) (k : Task) → x ≡ Ok k → reply.ShownTask k ≡ sees_row x
 unfolding sees_row
 see_row x k e = rw e
 
 -- ---- rows of slots
 
-module _ (x : SlotRow) (j : ℕ) where
-  pub standing-bad : (b : ℕ) → x ≡ slotrow.Bad → found.Bad ≡ standing x b j
+module _ (x : Result Slot Damaged) (j : ℕ) where
+  pub standing-bad : (b : ℕ) → x ≡ Err damaged → Err damaged ≡ standing x b j
   unfolding standing
   standing-bad b e = rw e
 
-  pub standing-row : (b : ℕ) (y : Slot) (p : Bool) (r : Found) → x ≡ slotrow.Row y → p ≡ (is_live y.status && eqb y.block b) → r ≡ found_if p j → r ≡ standing x b j
+  pub standing-row : (b : ℕ) (y : Slot) (p : Bool) (r : Found) → x ≡ Ok y → p ≡ (is_live y.status && eqb y.block b) → r ≡ found_if p j → r ≡ standing x b j
   unfolding standing
   standing-row b y p r e f g = g ∙ rw (e, f)
 
-  pub vacant-bad : x ≡ slotrow.Bad → found.Bad ≡ vacant x j
+  pub vacant-bad : x ≡ Err damaged → Err damaged ≡ vacant x j
   unfolding vacant
   vacant-bad e = rw e
 
-  pub vacant-row : (y : Slot) (p : Bool) (r : Found) → x ≡ slotrow.Row y → p ≡ (is_free y.status && ltb y.serial last_serial) → r ≡ found_if p j → r ≡ vacant x j
+  pub vacant-row : (y : Slot) (p : Bool) (r : Found) → x ≡ Ok y → p ≡ (is_free y.status && ltb y.serial last_serial) → r ≡ found_if p j → r ≡ vacant x j
   unfolding vacant
   vacant-row y p r e f g = g ∙ rw (e, f)
 
-  pub live_bad : x ≡ slotrow.Bad → found.Bad ≡ live_at x j
+  pub live_bad : x ≡ Err damaged → Err damaged ≡ live_at x j
   unfolding live_at
   live_bad e = rw e
 
-  pub live_row_lem : (y : Slot) (p : Bool) (r : Found) → x ≡ slotrow.Row y → p ≡ is_live y.status → r ≡ found_if p j → r ≡ live_at x j
+  pub live_row_lem : (y : Slot) (p : Bool) (r : Found) → x ≡ Ok y → p ≡ is_live y.status → r ≡ found_if p j → r ≡ live_at x j
   unfolding live_at
   live_row_lem y p r e f g = g ∙ rw (e, f)
 
 -- ---- rows of tasks
 
-module _ (x : TaskRow) (t : ℕ) where
-  pub naming-bad : (j : ℕ) → x ≡ taskrow.Bad → found.Bad ≡ naming x j t
+module _ (x : Result Task Damaged) (t : ℕ) where
+  pub naming-bad : (j : ℕ) → x ≡ Err damaged → Err damaged ≡ naming x j t
   unfolding naming
   naming-bad j e = rw e
 
-  pub naming-row : (j : ℕ) (k : Task) (p : Bool) (r : Found) → x ≡ taskrow.Row k → p ≡ (names k.stage && eqb k.slot j) → r ≡ found_if p t → r ≡ naming x j t
+  pub naming-row : (j : ℕ) (k : Task) (p : Bool) (r : Found) → x ≡ Ok k → p ≡ (names k.stage && eqb k.slot j) → r ≡ found_if p t → r ≡ naming x j t
   unfolding naming
   naming-row j k p r e f g = g ∙ rw (e, f)
 
-  pub filler-bad : (b : ℕ) → x ≡ taskrow.Bad → found.Bad ≡ filler x b t
+  pub filler-bad : (b : ℕ) → x ≡ Err damaged → Err damaged ≡ filler x b t
   unfolding filler
   filler-bad b e = rw e
 
-  pub filler-row : (b : ℕ) (k : Task) (p : Bool) (r : Found) → x ≡ taskrow.Row k → p ≡ (fills k.stage && eqb k.target b) → r ≡ found_if p t → r ≡ filler x b t
+  pub filler-row : (b : ℕ) (k : Task) (p : Bool) (r : Found) → x ≡ Ok k → p ≡ (fills k.stage && eqb k.target b) → r ≡ found_if p t → r ≡ filler x b t
   unfolding filler
   filler-row b k p r e f g = g ∙ rw (e, f)
 
 -- ---- counts
 
-module _ (c : Counted) (x : Found) where
-  pub plus-bad : c ≡ count.Bad → count.Bad ≡ plus c x
+module _ (c : Result ℕ Damaged) (x : Found) where
+  pub plus-bad : c ≡ Err damaged → Err damaged ≡ plus c x
   unfolding plus
   plus-bad e = rw e
 
-  pub plus-of : (m : ℕ) (r : Counted) → c ≡ count.Of m → r ≡ plus (count.Of m) x → r ≡ plus c x
+  pub plus-of : (m : ℕ) (r : Result ℕ Damaged) → c ≡ Ok m → r ≡ plus (Ok m) x → r ≡ plus c x
   plus-of m r e f = f ∙ rw e
 
-  pub count-below : (m : ℕ) → c ≡ count.Of m → CountBelow c → m < 4294967295
+  pub count-below : (m : ℕ) → c ≡ Ok m → CountBelow c → m < 4294967295
   count-below m e h = rw e at h
 
-module _ (y : Counted) (m : ℕ) where
-  pub report-bad : y ≡ count.Bad → reply.Refused 2 ≡ reports (count.Of m) y
+module _ (y : Result ℕ Damaged) (m : ℕ) where
+  pub report-bad : y ≡ Err damaged → reply.Refused 2 ≡ reports (Ok m) y
   unfolding reports
   report-bad e = rw e
 
-  pub report-of : (k : ℕ) → y ≡ count.Of k → reply.Reported m k ≡ reports (count.Of m) y
+  pub report-of : (k : ℕ) → y ≡ Ok k → reply.Reported m k ≡ reports (Ok m) y
   unfolding reports
   report-of k e = rw e
 
-module _ (x y : Counted) where
-  pub reports-bad : x ≡ count.Bad → reply.Refused 2 ≡ reports x y
+module _ (x y : Result ℕ Damaged) where
+  pub reports-bad : x ≡ Err damaged → reply.Refused 2 ≡ reports x y
   unfolding reports
   reports-bad e = rw e
 
-  pub reports_of : (m : ℕ) (r : Reply) → x ≡ count.Of m → r ≡ reports (count.Of m) y → r ≡ reports x y
+  pub reports_of : (m : ℕ) (r : Reply) → x ≡ Ok m → r ≡ reports (Ok m) y → r ≡ reports x y
   reports_of m r e f = f ∙ rw e
 
 pub last_serial_lem : (x : Slot) (b : Bool) → b ≡ ltb x.serial 16777215 → b ≡ ltb x.serial last_serial

@@ -3,7 +3,6 @@
 use Rattle.std.specs.Prelude.{ℕ, Bool, false, true, List, ◌≡◌}
 use Rattle.rulebook.specs.declared.Reply.{Reply}
 use Rattle.rulebook.specs.Answers.{refusal, word}
-use Rattle.acts.specs.declared.Said.{Said}
 use Rattle.rulebook.specs.declared.Reply.TheVariants as reply
 
 -- nothing is said: a refusal that leaves zeros, or a step that only goes on
@@ -21,7 +20,7 @@ silent_of (reply.ShownEntry e) = false
 silent_of (reply.ShownTask k) = false
 silent_of (reply.Reported h b) = false
 
-unfoldable pub said_of : Reply → Said
+unfoldable pub said_of : Reply → Reply
 said_of r =
     record {
       silent = silent_of r;
@@ -36,41 +35,41 @@ said_of r =
       eighth = word 7 r;
     }
 
-unfoldable pub told_in : List ℕ × Reply → List ℕ × Said
+unfoldable pub told_in : List ℕ × Reply → List ℕ × Reply
 told_in z = (z.0, said_of z.1)
 
-unfoldable pub few_said : Bool → ℕ → ℕ → ℕ → ℕ → ℕ → ℕ → Said
+unfoldable pub few_said : Bool → ℕ → ℕ → ℕ → ℕ → ℕ → ℕ → Reply
 few_said s n a b c d e =
     record { silent = s; refusal = n; first = a; second = b; third = c; fourth = d; fifth = e; sixth = 0; seventh = 0; eighth = 0 }
 
 -- ---- each answer has five numbers at most
 
-module _ (r : Said) where
-  pub said-refused : (n : ℕ) → r ≡ few_said true n 0 0 0 0 0 → r ≡ said_of (reply.Refused n)
+module _ (r : Reply) where
+  pub said-refused : (n : ℕ) → r ≡ few_said true n 0 0 0 0 0 → r ≡ reply.Refused n
   unfolding said_of few_said
   said-refused n e = e
 
-  pub said-quiet : r ≡ few_said true 0 0 0 0 0 0 → r ≡ said_of reply.Quiet
+  pub said-quiet : r ≡ few_said true 0 0 0 0 0 0 → r ≡ reply.Quiet
   unfolding said_of few_said
   said-quiet e = e
 
-  pub said-got : (s i v : ℕ) → r ≡ few_said false 0 2 s 0 i v → r ≡ said_of (reply.Got s i v)
+  pub said-got : (s i v : ℕ) → r ≡ few_said false 0 2 s 0 i v → r ≡ reply.Got s i v
   unfolding said_of few_said
   said-got s i v e = e
 
-  pub said-handed : (i v : ℕ) → r ≡ few_said false 0 1 0 0 i v → r ≡ said_of (reply.Handed i v)
+  pub said-handed : (i v : ℕ) → r ≡ few_said false 0 1 0 0 i v → r ≡ reply.Handed i v
   unfolding said_of few_said
   said-handed i v e = e
 
-  pub said-last : (s i v : ℕ) → r ≡ few_said false 0 3 s 0 i v → r ≡ said_of (reply.HandedLast s i v)
+  pub said-last : (s i v : ℕ) → r ≡ few_said false 0 3 s 0 i v → r ≡ reply.HandedLast s i v
   unfolding said_of few_said
   said-last s i v e = e
 
-  pub said-made : (s h : ℕ) → r ≡ few_said false 0 2 s h 0 0 → r ≡ said_of (reply.Made s h)
+  pub said-made : (s h : ℕ) → r ≡ few_said false 0 2 s h 0 0 → r ≡ reply.Made s h
   unfolding said_of few_said
   said-made s h e = e
 
-  pub said-full : (s : ℕ) → r ≡ few_said false 10 2 s 0 0 0 → r ≡ said_of (reply.Full s)
+  pub said-full : (s : ℕ) → r ≡ few_said false 10 2 s 0 0 0 → r ≡ reply.Full s
   unfolding said_of few_said
   said-full s e = e
 

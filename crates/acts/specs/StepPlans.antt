@@ -1,8 +1,6 @@
 -- What each step does and answers, decided from what it sees; 2 where a bad row or word is first read. The same text serves the words of a
 -- pool and the machine's state. Rests on Sight and Plans.
-use Rattle.std.specs.Prelude.{◌+◌, ℕ, eqb, leb, ltb, if◌then◌else◌}
-use Rattle.block.specs.declared.Looked.{Looked}
-use Rattle.block.specs.declared.Probed.{Probed}
+use Rattle.std.specs.Prelude.{◌+◌, ℕ, eqb, leb, ltb, if◌then◌else◌, Err, None, Ok, Result, Some}
 use Rattle.rulebook.specs.declared.Entry.{Entry}
 use Rattle.rulebook.specs.declared.Hand.{Hand}
 use Rattle.rulebook.specs.declared.Progress.{Progress}
@@ -13,27 +11,21 @@ use Rattle.rulebook.specs.Sizes.{last_serial, public_number}
 use Rattle.rulebook.specs.State.{freed, hand_of, idle}
 use Rattle.rulebook.specs.Steps.{aimed, answer, guessed, middle, moved, probed_at, searching}
 use Rattle.acts.specs.Sight.{Sight}
-use Rattle.acts.specs.declared.Act.{Act}
-use Rattle.acts.specs.declared.Found.{Found}
-use Rattle.acts.specs.declared.Read.{Read}
+use Rattle.acts.specs.Acts.{Act}
+use Rattle.acts.specs.Acts.{Found}
 use Rattle.acts.specs.declared.Reader.{Reader}
-use Rattle.acts.specs.declared.SlotRow.{SlotRow}
-use Rattle.acts.specs.declared.TaskRow.{TaskRow}
-use Rattle.acts.specs.declared.Touch.{Touch}
-use Rattle.acts.specs.declared.SlotRow.TheVariants as slotrow
-use Rattle.acts.specs.declared.TaskRow.TheVariants as taskrow
-use Rattle.acts.specs.declared.Found.TheVariants as found
-use Rattle.acts.specs.declared.Read.TheVariants as read
+use Rattle.acts.specs.Acts.{Touch}
 use Rattle.acts.specs.declared.Reader.TheVariants as reader
-use Rattle.acts.specs.declared.Touch.TheVariants as touch
+use Rattle.acts.specs.Acts as touch
 use Rattle.rulebook.specs.declared.Stage.TheVariants as stage
 use Rattle.rulebook.specs.declared.Status.TheVariants as status
 use Rattle.rulebook.specs.declared.Reply.TheVariants as reply
 use Rattle.rulebook.specs.declared.Reading.TheVariants as reading
 use Rattle.rulebook.specs.declared.Progress.TheVariants as progress
-use Rattle.block.specs.declared.Looked.TheVariants as looked
-use Rattle.block.specs.declared.Probed.TheVariants as probed
 use Rattle.acts.specs.Plans.{after, ends, free_in, goes, refused, ticked}
+use Rattle.rulebook.specs.Codes.{damaged}
+use Rattle.rulebook.specs.declared.Damaged.{Damaged}
+use Rattle.rulebook.specs.declared.Slot.{Slot}
 
 -- ---- one step of a get: what follows from what it reads
 
@@ -53,36 +45,36 @@ after_bounds q = if eqb q.lo q.hi then progress.Settled q else progress.Going re
 abbrev pub after_entry : Entry → ℕ → Hand → Progress
 after_entry e L w = after_bounds (probed_at (middle w) e L w)
 
-unfoldable pub read_guess : Looked → Hand → Read
-read_guess looked.Bad w = read.Bad
-read_guess (looked.Word v) w = read.Got (after_guess v w)
+unfoldable pub read_guess : Result ℕ Damaged → Hand → Result Progress Damaged
+read_guess (Err _) w = Err damaged
+read_guess (Ok v) w = Ok (after_guess v w)
 
-unfoldable pub read_version : Looked → ℕ → Hand → Read
-read_version looked.Bad L w = read.Bad
-read_version (looked.Word v) L w = read.Got (after_version v L w)
+unfoldable pub read_version : Result ℕ Damaged → ℕ → Hand → Result Progress Damaged
+read_version (Err _) L w = Err damaged
+read_version (Ok v) L w = Ok (after_version v L w)
 
-unfoldable pub read_length : Looked → Hand → Read
-read_length looked.Bad w = read.Bad
-read_length (looked.Word m) w = read.Got (after_length m w)
+unfoldable pub read_length : Result ℕ Damaged → Hand → Result Progress Damaged
+read_length (Err _) w = Err damaged
+read_length (Ok m) w = Ok (after_length m w)
 
-unfoldable pub read_entry : Probed → ℕ → Hand → Read
-read_entry probed.Bad L w = read.Bad
-read_entry (probed.Found x) L w = read.Got (after_entry x L w)
+unfoldable pub read_entry : Result Entry Damaged → ℕ → Hand → Result Progress Damaged
+read_entry (Err _) L w = Err damaged
+read_entry (Ok x) L w = Ok (after_entry x L w)
 
 -- the step of the get in hand of task k
-unfoldable pub read_in : Reading → Sight → Task → Read
+unfoldable pub read_in : Reading → Sight → Task → Result Progress Damaged
 read_in reading.Guess e k = read_guess (e.cell k.block k.hand.cell) k.hand
 read_in reading.Version e k = read_version (e.version k.block) k.number k.hand
 read_in reading.Length e k = read_length (e.log k.block k.hand.cell) k.hand
 read_in reading.Probe e k =
-    if leb k.hand.hi k.hand.lo then read.Bad else read_entry (e.entry k.block k.hand.cell (middle k.hand)) k.number k.hand
+    if leb k.hand.hi k.hand.lo then Err damaged else read_entry (e.entry k.block k.hand.cell (middle k.hand)) k.number k.hand
 
 -- ---- what it means for a get, a page and a copy
 
-unfoldable pub get_goes : Read → ℕ → Task → Act
-get_goes read.Bad t k = refused 2
-get_goes (read.Got (progress.Going r w)) t k = goes touch.Nothing t (moved k (stage.Getting r) w) reply.Quiet
-get_goes (read.Got (progress.Settled w)) t k = goes touch.Nothing t idle (reply.Got k.steps w.cell (answer w))
+unfoldable pub get_goes : Result Progress Damaged → ℕ → Task → Act
+get_goes (Err _) t k = refused 2
+get_goes (Ok (progress.Going r w)) t k = goes touch.Nothing t (moved k (stage.Getting r) w) reply.Quiet
+get_goes (Ok (progress.Settled w)) t k = goes touch.Nothing t idle (reply.Got k.steps w.cell (answer w))
 
 unfoldable pub page_settles : Hand → ℕ → Task → Act
 page_settles w t k =
@@ -90,15 +82,15 @@ page_settles w t k =
     then goes touch.Nothing t idle (reply.HandedLast k.steps w.cell (answer w))
     else goes touch.Nothing t (moved k (stage.Paging reading.Guess) (hand_of (after w.cell))) (reply.Handed w.cell (answer w))
 
-unfoldable pub page_goes : Read → ℕ → Task → Act
-page_goes read.Bad t k = refused 2
-page_goes (read.Got (progress.Going r w)) t k = goes touch.Nothing t (moved k (stage.Paging r) w) reply.Quiet
-page_goes (read.Got (progress.Settled w)) t k = page_settles w t k
+unfoldable pub page_goes : Result Progress Damaged → ℕ → Task → Act
+page_goes (Err _) t k = refused 2
+page_goes (Ok (progress.Going r w)) t k = goes touch.Nothing t (moved k (stage.Paging r) w) reply.Quiet
+page_goes (Ok (progress.Settled w)) t k = page_settles w t k
 
-unfoldable pub copy_goes : Read → ℕ → Task → Act
-copy_goes read.Bad t k = refused 2
-copy_goes (read.Got (progress.Going r w)) t k = goes touch.Nothing t (moved k (stage.Copying r) w) reply.Quiet
-copy_goes (read.Got (progress.Settled w)) t k = goes touch.Nothing t (moved k stage.FillCopy w) reply.Quiet
+unfoldable pub copy_goes : Result Progress Damaged → ℕ → Task → Act
+copy_goes (Err _) t k = refused 2
+copy_goes (Ok (progress.Going r w)) t k = goes touch.Nothing t (moved k (stage.Copying r) w) reply.Quiet
+copy_goes (Ok (progress.Settled w)) t k = goes touch.Nothing t (moved k stage.FillCopy w) reply.Quiet
 
 -- whoever reads: its stage, and what its reading means for it
 abbrev pub stage_for : Reader → Reading → Stage
@@ -106,7 +98,7 @@ stage_for reader.Get r = stage.Getting r
 stage_for reader.Copy r = stage.Copying r
 stage_for reader.Page r = stage.Paging r
 
-unfoldable pub goes_on : Reader → Read → ℕ → Task → Act
+unfoldable pub goes_on : Reader → Result Progress Damaged → ℕ → Task → Act
 goes_on reader.Get x t k = get_goes x t k
 goes_on reader.Copy x t k = copy_goes x t k
 goes_on reader.Page x t k = page_goes x t k
@@ -114,21 +106,21 @@ goes_on reader.Page x t k = page_goes x t k
 -- ---- the other stages
 
 -- the task is idle, and its slot, whose row is y, carries a handle on block b with number L
-unfoldable pub finishes : SlotRow → Touch → ℕ → Task → ℕ → ℕ → Act
-finishes slotrow.Bad x t k b L = refused 2
-finishes (slotrow.Row y) x t k b L =
+unfoldable pub finishes : Result Slot Damaged → Touch → ℕ → Task → ℕ → ℕ → Act
+finishes (Err _) x t k b L = refused 2
+finishes (Ok y) x t k b L =
     if leb last_serial y.serial then refused 2 else
     ends x k.fresh (record { serial = y.serial + 1; status = status.Live; block = b; number = L }) t idle (reply.Made k.steps (public_number k.fresh (y.serial + 1)))
 
 -- refused 10
-unfoldable pub gives_up : SlotRow → ℕ → Task → Act
-gives_up slotrow.Bad t k = refused 2
-gives_up (slotrow.Row y) t k = ends touch.Nothing k.fresh (freed y.serial) t idle (reply.Full k.steps)
+unfoldable pub gives_up : Result Slot Damaged → ℕ → Task → Act
+gives_up (Err _) t k = refused 2
+gives_up (Ok y) t k = ends touch.Nothing k.fresh (freed y.serial) t idle (reply.Full k.steps)
 
 unfoldable pub takes : Found → Sight → ℕ → Task → Stage → Act
-takes found.Bad e t k g = refused 2
-takes (found.At b) e t k g = goes (touch.Take b) t (aimed (moved k g (hand_of 0)) b) reply.Quiet
-takes found.None e t k g = gives_up (e.slot k.fresh) t k
+takes (Err _) e t k g = refused 2
+takes (Ok (Some b)) e t k g = goes (touch.Take b) t (aimed (moved k g (hand_of 0)) b) reply.Quiet
+takes (Ok None) e t k g = gives_up (e.slot k.fresh) t k
 
 unfoldable pub fills_new : Sight → ℕ → Task → Act
 fills_new e t k =
@@ -139,16 +131,16 @@ fills_new e t k =
 abbrev pub after_exchange : ℕ → Task → Task
 after_exchange n k = if ltb k.number n then moved k stage.Read k.hand else moved k stage.TakeCopy (hand_of 0)
 
-unfoldable pub exchanges_on : Looked → ℕ → ℕ → Task → Act
-exchanges_on looked.Bad n t k = refused 2
-exchanges_on (looked.Word v) n t k =
+unfoldable pub exchanges_on : Result ℕ Damaged → ℕ → ℕ → Task → Act
+exchanges_on (Err _) n t k = refused 2
+exchanges_on (Ok v) n t k =
     if eqb v k.number
     then goes (touch.Exchange k.block k.number) t (after_exchange n k) reply.Quiet
     else goes touch.Nothing t (moved k stage.TakeCopy (hand_of 0)) reply.Quiet
 
-unfoldable pub reads_old : Looked → ℕ → Task → Act
-reads_old looked.Bad t k = refused 2
-reads_old (looked.Word v) t k = goes touch.Nothing t (moved k stage.Append (guessed k.hand v)) reply.Quiet
+unfoldable pub reads_old : Result ℕ Damaged → ℕ → Task → Act
+reads_old (Err _) t k = refused 2
+reads_old (Ok v) t k = goes touch.Nothing t (moved k stage.Append (guessed k.hand v)) reply.Quiet
 
 unfoldable pub appends_entry : ℕ → Task → Act
 appends_entry t k =
@@ -186,9 +178,9 @@ plan_at stage.FillCopy e t k = fills_copy e.sizes.n t k
 plan_at stage.Put e t k = puts e t k
 plan_at (stage.Paging r) e t k = page_goes (read_in r e k) t k
 
-unfoldable pub plan_row : TaskRow → Sight → ℕ → Act
-plan_row taskrow.Bad e t = refused 2
-plan_row (taskrow.Row k) e t = plan_at k.stage e t (ticked k)
+unfoldable pub plan_row : Result Task Damaged → Sight → ℕ → Act
+plan_row (Err _) e t = refused 2
+plan_row (Ok k) e t = plan_at k.stage e t (ticked k)
 
 unfoldable pub plan_step : Sight → ℕ → Act
 plan_step e t = if leb e.sizes.t t then refused 4 else plan_row (e.task t) e t

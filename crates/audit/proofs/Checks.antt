@@ -1,8 +1,7 @@
 -- The number that the check computes is that of the first broken rule, and is 0 exactly where the words are a sound store.
 -- Rests on Check, Decided, First and Whole.
-use Rattle.std.specs.Prelude.{◌+◌, ◌<◌, ℕ, List, ◌≡◌, refl}
+use Rattle.std.specs.Prelude.{◌+◌, ◌<◌, ℕ, List, ◌≡◌, refl, None, Option, Some}
 use Rattle.std.proofs.Common.{◌∙◌, ap, subst, sym, arith}
-use Rattle.layout.specs.declared.Header.{Header}
 use Rattle.rulebook.specs.declared.Sizes.{Sizes}
 use Rattle.bridge.specs.Sound.{Sound}
 use Rattle.layout.specs.Header.{header_of}
@@ -13,16 +12,15 @@ use Rattle.survey.specs.Decided.{decides_2, decides_3, decides_4, decides_5, dec
 use Rattle.audit.specs.First.{First, first-all, first-before, first-broken, first-end, first_least, first_next, first_one, first-zero, rule_of}
 use Rattle.survey.specs.Rules.{Rule1, Rule2, Rule3, Rule4, Rule5, Rule6, Rule7}
 use Rattle.survey.specs.Whole.{header-one, one-header, rest-sound, sound-rest}
-use Rattle.layout.specs.declared.Header.TheVariants as header
 use Rattle.audit.specs.Check.{rules_of, FirstBroken}
 
 -- it determines the number
 pub broken-one : (p : List ℕ) (r s : ℕ) → FirstBroken p r → FirstBroken p s → r ≡ s
 broken-one p r s a b = at (header_of p) refl
   where
-    at : (x : Header) → header_of p ≡ x → r ≡ s
-    at header.Bad e = let out : Rule1 p → ⊥ = λ o. o.described e in a.at_one out ∙ sym (b.at_one out)
-    at (header.Good d) e = first_one 2 (rules_of d p) r s (a.later d e) (b.later d e)
+    at : (x : Option Sizes) → header_of p ≡ x → r ≡ s
+    at None e = let out : Rule1 p → ⊥ = λ o. o.described e in a.at_one out ∙ sym (b.at_one out)
+    at (Some d) e = first_one 2 (rules_of d p) r s (a.later d e) (b.later d e)
 
 rest-first : (d : Sizes) (p : List ℕ) → Spans d p → First 2 (rules_of d p) (broken_of d p)
 unfolding broken_of
@@ -31,13 +29,13 @@ rest-first d p sp =
     (λ _. first_next 4 (Rule4 d p) _ (rule4 d p) _ (decides_4 d p two) (λ _. first_next 5 (Rule5 d p) _ (rule5 d p) _ (decides_5 d p)
     (λ _. first_next 6 (Rule6 d p) _ (rule6 d p) _ (decides_6 d p) (λ _. first_next 7 (Rule7 d p) _ (rule7 d p) _ (decides_7 d p sp) (λ _. first-end 8))))))
 
-good : (p : List ℕ) (d : Sizes) → header_of p ≡ header.Good d → broken_in p ≡ broken_of d p
+good : (p : List ℕ) (d : Sizes) → header_of p ≡ Some d → broken_in p ≡ broken_of d p
 unfolding broken_in
-good p d e = ap (λ (x : Header). broken_under x p) e
+good p d e = ap (λ (x : Option Sizes). broken_under x p) e
 
-bad : (p : List ℕ) → header_of p ≡ header.Bad → broken_in p ≡ 1
+bad : (p : List ℕ) → header_of p ≡ None → broken_in p ≡ 1
 unfolding broken_in
-bad p e = ap (λ (x : Header). broken_under x p) e
+bad p e = ap (λ (x : Option Sizes). broken_under x p) e
 
 pub broken-first : (p : List ℕ) → FirstBroken p (broken_in p)
 broken-first p = record {
@@ -45,9 +43,9 @@ broken-first p = record {
   later = λ d e. subst (First 2 (rules_of d p)) (sym (good p d e)) (rest-first d p (header-spans p d e));
 }
   where
-    at : (Rule1 p → ⊥) → (x : Header) → header_of p ≡ x → broken_in p ≡ 1
-    at out header.Bad e = bad p e
-    at out (header.Good d) e = absurd (out (header-one d p e))
+    at : (Rule1 p → ⊥) → (x : Option Sizes) → header_of p ≡ x → broken_in p ≡ 1
+    at out None e = bad p e
+    at out (Some d) e = absurd (out (header-one d p e))
 
 -- ---- 0 exactly where the store is sound
 
@@ -59,9 +57,9 @@ sound_passes d p s =
 pub passes_sound : (p : List ℕ) → broken_in p ≡ 0 → (d : Sizes) × Sound d p
 passes_sound p z = at (header_of p) refl
   where
-    at : (x : Header) → header_of p ≡ x → (d : Sizes) × Sound d p
-    at header.Bad e = absurd (omega (arith, bad p e))
-    at (header.Good d) e =
+    at : (x : Option Sizes) → header_of p ≡ x → (d : Sizes) × Sound d p
+    at None e = absurd (omega (arith, bad p e))
+    at (Some d) e =
         let h = first-zero 2 (rules_of d p) (omega arith) (subst (First 2 (rules_of d p)) z ((broken-first p).later d e)) in
         (d, rest-sound e (record { two = h.0; three = h.1.0; four = h.1.1.0; five = h.1.1.1.0; six = h.1.1.1.1.0; seven = h.1.1.1.1.1.0 }))
 
@@ -75,11 +73,11 @@ broken-at_one p z o =
 
 module _ (p : List ℕ) (m : ℕ) (z : broken_in p ≡ 2 + m) where
   -- rule 1 holds
-  pub broken-header : (d : Sizes) × (header_of p ≡ header.Good d)
+  pub broken-header : (d : Sizes) × (header_of p ≡ Some d)
   broken-header = one-header p (record { described = λ e. omega (arith, bad p e) })
 
   -- so do those between it and rule 2 + m, which does not
-  module _ (d : Sizes) (e : header_of p ≡ header.Good d) where
+  module _ (d : Sizes) (e : header_of p ≡ Some d) where
     number : First 2 (rules_of d p) (2 + m)
     number = subst (First 2 (rules_of d p)) z ((broken-first p).later d e)
 

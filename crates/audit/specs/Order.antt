@@ -1,10 +1,9 @@
 -- The rules in their order: what the functions that ask them one after another owe.
 -- Rests on Broken and Decided.
-use Rattle.std.specs.Prelude.{ℕ, Bool, false, not, true, List, ◌≡◌, refl, if◌then◌else◌}
+use Rattle.std.specs.Prelude.{ℕ, Bool, false, not, true, List, ◌≡◌, refl, if◌then◌else◌, None, Option, Some}
 use Rattle.std.proofs.Common.{◌∙◌, sym, arith}
 use Rattle.std.proofs.Math.Path.{ap}
 use borrow.Author.Tests.{not-false, not-true}
-use Rattle.layout.specs.declared.Header.{Header}
 use Rattle.rulebook.specs.declared.Sizes.{Sizes}
 use Rattle.layout.specs.Header.{header_of}
 use Rattle.layout.specs.Places.{Spans}
@@ -12,7 +11,6 @@ use Rattle.layout.specs.Sizing.{header-spans}
 use Rattle.survey.specs.Broken.{broken_in, broken_logs, broken_of, broken_rows, broken_under, rule2, rule3, rule4, rule5, rule6, rule7}
 use Rattle.survey.specs.Decided.{decides_2, decides_3, decides_6}
 use Rattle.survey.specs.Rules.{Rule2, Rule3, Rule6}
-use Rattle.layout.specs.declared.Header.TheVariants as header
 
 module _ (d : Sizes) (p : List ℕ) (a : Bool) (e : a ≡ rule2 d p) where
   pub order-two : not a ≡ true → 2 ≡ broken_logs d p
@@ -100,18 +98,18 @@ rows_kept false y e = absurd (omega arith)
 rows_kept true false e = absurd (omega arith)
 rows_kept true true e = (refl, refl)
 
-module _ (p : List ℕ) (h : Header) (m : h ≡ header_of p) where
-  pub check-header : h ≡ header.Bad → 1 ≡ broken_in p
+module _ (p : List ℕ) (h : Option Sizes) (m : h ≡ header_of p) where
+  pub check-header : h ≡ None → 1 ≡ broken_in p
   unfolding broken_in
-  check-header q = ap (λ (x : Header). broken_under x p) (sym q ∙ m)
+  check-header q = ap (λ (x : Option Sizes). broken_under x p) (sym q ∙ m)
 
-  module _ (d : Sizes) (q : h ≡ header.Good d) where
+  module _ (d : Sizes) (q : h ≡ Some d) where
     pub check-spans : Spans d p
     check-spans = header-spans p d (sym m ∙ q)
 
     of-rest : broken_of d p ≡ broken_in p
     unfolding broken_in
-    of-rest = ap (λ (x : Header). broken_under x p) (sym q ∙ m)
+    of-rest = ap (λ (x : Option Sizes). broken_under x p) (sym q ∙ m)
 
     module _ (r : ℕ) (e : r ≡ broken_logs d p) where
       pub check-logs : (r ≡ 0 → ⊥) → r ≡ broken_in p

@@ -1,19 +1,18 @@
 -- Rule 7's task rows: one law for each way out, and what keeps the sums of steps in 32 bits.
 -- Rests on Broken, DecideTasks and the rules' bounds on steps.
-use Rattle.std.specs.Prelude.{◌*◌, ◌+◌, ◌-◌, ◌/◌, ◌<◌, ◌^◌, ◌≤◌, suc, zero, ℕ, Bool, ◌&&◌, false, not, true, List, eqb, leb, get_or}
+use Rattle.std.specs.Prelude.{◌*◌, ◌+◌, ◌-◌, ◌/◌, ◌<◌, ◌^◌, ◌≤◌, suc, zero, ℕ, Bool, ◌&&◌, false, not, true, List, eqb, leb, get_or, Err, Ok, Result}
 use Rattle.std.proofs.Common.{◌∙◌, ap, subst, sym, pow-suc, pow_pos}
 use Rattle.std.proofs.Math.Path.{◌≡◌, refl}
 use native.Mathlib.Omega.{arith}
 use Rattle.std.proofs.lemmas.Nat.{leading_le, leading_length}
 use Rattle.std.specs.Int.Count.{count_leading_zeros}
 use borrow.Author.Tests.{eq-eqb, le-leb, lt-leb, lt-ltb, ne_eqb}
-use Rattle.acts.specs.declared.TaskRow.{TaskRow}
 use Rattle.rulebook.specs.declared.Hand.{Hand}
 use Rattle.rulebook.specs.declared.Reading.{Reading}
 use Rattle.rulebook.specs.declared.Sizes.{Sizes}
 use Rattle.rulebook.specs.declared.Stage.{Stage}
 use Rattle.rulebook.specs.declared.Task.{Task}
-use Rattle.layout.specs.Codes.{code_of, is_code}
+use Rattle.rulebook.specs.Codes.{code_of, is_code}
 use Rattle.layout.specs.Places.{Spans, task_part}
 use Rattle.layout.specs.Pool.{task_in}
 use Rattle.layout.specs.Ranges.{task-ranged, task_row}
@@ -28,9 +27,10 @@ use Rattle.survey.specs.Broken.{task_sound}
 use Rattle.survey.specs.Holds.{bare_hand, bare_task, pace_holds, range_holds}
 use Rattle.survey.specs.DecideTasks.{range_decides}
 use Rattle.survey.specs.Rules.{task}
-use Rattle.acts.specs.declared.TaskRow.TheVariants as taskrow
 use Rattle.rulebook.specs.declared.Reading.TheVariants as reading
 use Rattle.rulebook.specs.declared.Stage.TheVariants as stage
+use Rattle.rulebook.specs.Codes.{damaged}
+use Rattle.rulebook.specs.declared.Damaged.{Damaged}
 
 -- ---- an idle task, in parts
 
@@ -206,14 +206,14 @@ pub ruleset paces = (within-is, new_is, fill_is, put_is, page_far, get-is, copyi
 -- ---- a row
 
 -- a row that was read has a stage's code; a row with one, in its ranges, is read
-row-code : (d : Sizes) (k : Task) (w : List ℕ) → task_row_of d w ≡ taskrow.Row k → is_code (get_or w 0 0) ≡ true
+row-code : (d : Sizes) (k : Task) (w : List ℕ) → task_row_of d w ≡ Ok k → is_code (get_or w 0 0) ≡ true
 unfolding task_row_of
 row-code d k w e =
     by_test (is_code (get_or w 0 0))
     (λ o. o)
-    (λ o. let q : taskrow.Bad ≡ taskrow.Row k = rw o at e in let z : ◌≡◌ {A = ℕ} 0 1 = cc in absurd (omega arith))
+    (λ o. let q : (Err damaged) ≡ Ok k = rw o at e in let z : ◌≡◌ {A = ℕ} 0 1 = cc in absurd (omega arith))
 
-row_reads : (d : Sizes) (w : List ℕ) → is_code (get_or w 0 0) ≡ true → task_fits d (task_read w) ≡ true → task_row_of d w ≡ taskrow.Row (task_read w)
+row_reads : (d : Sizes) (w : List ℕ) → is_code (get_or w 0 0) ≡ true → task_fits d (task_read w) ≡ true → task_row_of d w ≡ Ok (task_read w)
 unfolding task_row_of
 row_reads d w a b = rw (a, b)
 
@@ -252,8 +252,8 @@ range-fits d k m r =
       lt-ltb k.steps most_steps (steps-few d.n k.stage k m r.hand_below r.pace),
     )
 
-module _ (d : Sizes) (p : List ℕ) (t : ℕ) (y : TaskRow) (e : y ≡ task_in p d t) where
-  module _ (k : Task) (f : y ≡ taskrow.Row k) where
+module _ (d : Sizes) (p : List ℕ) (t : ℕ) (y : Result Task Damaged) (e : y ≡ task_in p d t) where
+  module _ (k : Task) (f : y ≡ Ok k) where
     row : (task_read (task_part p d t) ≡ k) × (task_fits d k ≡ true)
     unfolding task_in
     row = task_row d k (task_part p d t) (sym (sym f ∙ e))
@@ -267,17 +267,17 @@ module _ (d : Sizes) (p : List ℕ) (t : ℕ) (y : TaskRow) (e : y ≡ task_in p
         g ∙ pace-left d k (task-ranged d k row.1)
         ∙ rw (code_test (task_part p d t), row-code d k (task_part p d t) (sym (sym f ∙ e)), view_task_at d p t l, row.0)
 
-  pub row-bad : Spans d p → t < d.t → y ≡ taskrow.Bad → false ≡ task_sound d p t
+  pub row-bad : Spans d p → t < d.t → y ≡ Err damaged → false ≡ task_sound d p t
   unfolding task_sound task_in
   row-bad sp l f =
       by_test (eqb (code_of (task_read (task_part p d t)).stage) (get_or (task_part p d t) 0 0))
       (λ a. by_test (range_holds d (task d p t)) (λ b. absurd (bad-row (sym f ∙ e ∙ reads a b))) (λ b. rw (a, b)))
       (λ a. rw a)
     where
-      bad-row : {x : Task} → taskrow.Bad ≡ taskrow.Row x → ⊥
+      bad-row : {x : Task} → Err damaged ≡ Ok x → ⊥
       bad-row q = let z : ◌≡◌ {A = ℕ} 0 1 = cc in omega arith
 
-      reads : eqb (code_of (task_read (task_part p d t)).stage) (get_or (task_part p d t) 0 0) ≡ true → range_holds d (task d p t) ≡ true → task_row_of d (task_part p d t) ≡ taskrow.Row (task_read (task_part p d t))
+      reads : eqb (code_of (task_read (task_part p d t)).stage) (get_or (task_part p d t) 0 0) ≡ true → range_holds d (task d p t) ≡ true → task_row_of d (task_part p d t) ≡ Ok (task_read (task_part p d t))
       reads a b =
           row_reads d (task_part p d t) (sym (code_test (task_part p d t)) ∙ a)
           (range-fits d (task_read (task_part p d t)) sp.cells (subst (TaskRange d) (view_task_at d p t l) ((range_decides d (task d p t)).yes b)))

@@ -1,12 +1,11 @@
 -- Rule 7's functions on rows and blocks: one law for each way out.
 -- Rests on Broken, Ways and the deciding of each part.
-use Rattle.std.specs.Prelude.{◌+◌, ◌<◌, ◌≤◌, ℕ, Bool, false, not, true, List, eqb, leb, ltb, get_or}
+use Rattle.std.specs.Prelude.{◌+◌, ◌<◌, ◌≤◌, ℕ, Bool, false, not, true, List, eqb, leb, ltb, get_or, Err, Ok, Result}
 use Rattle.std.proofs.Math.Bool.{and-true}
 use Rattle.std.proofs.Common.{◌∙◌, ap, sym}
 use Rattle.std.proofs.Math.Path.{◌≡◌, subst}
 use native.Mathlib.Omega.{arith}
 use borrow.Author.Tests.{eq-eqb, le-leb, lt-leb, lt-ltb, ltb-true, ne_eqb, not-false, not-true}
-use Rattle.acts.specs.declared.SlotRow.{SlotRow}
 use Rattle.rulebook.specs.declared.Sizes.{Sizes}
 use Rattle.rulebook.specs.declared.Slot.{Slot}
 use Rattle.rulebook.specs.declared.Task.{Task}
@@ -30,8 +29,9 @@ use Rattle.survey.specs.DecideBlocks.{laid_decides}
 use Rattle.survey.specs.DecideTasks.{live_decides, slot_decides}
 use Rattle.survey.specs.Rules.{Lives, Rule2, shown, slot}
 use Rattle.survey.specs.Ways.{slot_as, task_as, version-here}
-use Rattle.acts.specs.declared.SlotRow.TheVariants as slotrow
 use Rattle.rulebook.specs.declared.Status.TheVariants as status
+use Rattle.rulebook.specs.Codes.{damaged}
+use Rattle.rulebook.specs.declared.Damaged.{Damaged}
 
 -- ---- writers
 
@@ -119,14 +119,14 @@ module _ (x : Slot) where
     slot-number q o = rw (low, ← f, q, eq-eqb x.block 0 o) (sym (and-true (eqb x.number 0)))
 
 -- a row that was read has a status's code; a row with one, in its ranges, is read
-row-code : (d : Sizes) (x : Slot) (w : List ℕ) → slot_row_of d w ≡ slotrow.Row x → get_or w 1 0 < 3
+row-code : (d : Sizes) (x : Slot) (w : List ℕ) → slot_row_of d w ≡ Ok x → get_or w 1 0 < 3
 unfolding slot_row_of
 row-code d x w e =
     by_test (ltb (get_or w 1 0) 3)
     (λ o. ltb-true (get_or w 1 0) 3 o)
-    (λ o. let q : slotrow.Bad ≡ slotrow.Row x = rw o at e in let z : ◌≡◌ {A = ℕ} 0 1 = cc in absurd (omega arith))
+    (λ o. let q : (Err damaged) ≡ Ok x = rw o at e in let z : ◌≡◌ {A = ℕ} 0 1 = cc in absurd (omega arith))
 
-row_reads : (d : Sizes) (p : List ℕ) (j : ℕ) → ltb (get_or (slot_part p j) 1 0) 3 ≡ true → slot_fits d (slot_read (slot_part p j)) ≡ true → slot_in p d j ≡ slotrow.Row (slot_read (slot_part p j))
+row_reads : (d : Sizes) (p : List ℕ) (j : ℕ) → ltb (get_or (slot_part p j) 1 0) 3 ≡ true → slot_fits d (slot_read (slot_part p j)) ≡ true → slot_in p d j ≡ Ok (slot_read (slot_part p j))
 unfolding slot_in slot_row_of
 row_reads d p j a b = rw (a, b)
 
@@ -139,8 +139,8 @@ fits-of d x sp r below within =
     let z = r.nowhere ((live_decides x.status).no v) in
     rw (lt-ltb x.block d.b (omega (arith, z.0, sp.some_blocks)), le-leb x.number d.n (omega (arith, z.1)), le-leb x.serial last_serial r.serial_not_above))
 
-module _ (d : Sizes) (p : List ℕ) (j : ℕ) (l : j < d.h) (y : SlotRow) (e : y ≡ slot_in p d j) where
-  pub slot_row-sound : (x : Slot) → y ≡ slotrow.Row x → (r : Bool) → r ≡ slot_holds x → r ≡ slot_sound d p j
+module _ (d : Sizes) (p : List ℕ) (j : ℕ) (l : j < d.h) (y : Result Slot Damaged) (e : y ≡ slot_in p d j) where
+  pub slot_row-sound : (x : Slot) → y ≡ Ok x → (r : Bool) → r ≡ slot_holds x → r ≡ slot_sound d p j
   unfolding slot_sound slot_in
   slot_row-sound x f r g = g ∙ rw (lt-ltb (get_or (slot_part p j) 1 0) 3 code, view_slot_at d p j l, row.0)
     where
@@ -151,17 +151,17 @@ module _ (d : Sizes) (p : List ℕ) (j : ℕ) (l : j < d.h) (y : SlotRow) (e : y
       code = row-code d x (slot_part p j) (sym e ∙ f)
 
   -- a slot that keeps rules 2 and 7 can be read
-  pub slot-bad-sound : Spans d p → Rule2 d p → y ≡ slotrow.Bad → false ≡ slot_sound d p j
+  pub slot-bad-sound : Spans d p → Rule2 d p → y ≡ Err damaged → false ≡ slot_sound d p j
   unfolding slot_sound
   slot-bad-sound sp two f =
       by_test (ltb (get_or (slot_part p j) 1 0) 3)
       (λ a. by_test (slot_holds (slot d p j)) (λ b. absurd (bad-row (sym f ∙ e ∙ reads a b))) (λ b. rw (a, b)))
       (λ a. rw a)
     where
-      bad-row : {x : Slot} → slotrow.Bad ≡ slotrow.Row x → ⊥
+      bad-row : {x : Slot} → Err damaged ≡ Ok x → ⊥
       bad-row q = let z : ◌≡◌ {A = ℕ} 0 1 = cc in omega arith
 
-      reads : ltb (get_or (slot_part p j) 1 0) 3 ≡ true → slot_holds (slot d p j) ≡ true → slot_in p d j ≡ slotrow.Row (slot_read (slot_part p j))
+      reads : ltb (get_or (slot_part p j) 1 0) 3 ≡ true → slot_holds (slot d p j) ≡ true → slot_in p d j ≡ Ok (slot_read (slot_part p j))
       reads a b = row_reads d p j a (fits-of d (slot_read (slot_part p j)) sp (subst SlotRange (view_slot_at d p j l) ((slot_decides (slot d p j)).yes b)) (λ v. place v) (λ v. number v))
         where
           lives : (slot_read (slot_part p j)).status ≡ status.Live → Lives d p j

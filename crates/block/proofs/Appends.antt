@@ -1,6 +1,6 @@
 -- An append to a sound block with fewer than n entries is done: it is the machine's, and leaves the block sound.
 -- Rests on Plans, Stores, Growth and Writes.
-use Rattle.std.specs.Prelude.{ℕ, ◌+◌, ◌*◌, ◌^◌, ◌≤◌, ◌<◌, ◌≡◌, refl, true, get_or, eqb}
+use Rattle.std.specs.Prelude.{ℕ, ◌+◌, ◌*◌, ◌^◌, ◌≤◌, ◌<◌, ◌≡◌, refl, true, get_or, eqb, Ok, Some, false}
 use Rattle.std.proofs.Common.{sym, ap, ap₂, ◌∙◌, inl, inr, ⊎_elim, arith}
 use mathlib.Core.List.{List, [], ◌∷◌, ◌++◌}
 use borrow.Author.Tests.{eqb-true, eqb-false, lt-ltb, le-leb, eq-eqb, ne_eqb}
@@ -10,9 +10,7 @@ use Rattle.rulebook.specs.Steps.{appended}
 use Rattle.rulebook.specs.Tests.{by_test}
 use Rattle.rulebook.specs.Lists.{list_to-same, list_to-get, list_to-set}
 use Rattle.rulebook.specs.declared.Entry.{Entry}
-use Rattle.block.specs.declared.Looked.TheVariants as looked
 use Rattle.block.specs.declared.change.Spot.{Spot}
-use Rattle.block.specs.declared.change.Room.TheVariants.{At}
 use Rattle.block.specs.Layout.{arena, chunk_of, offset_of, space_of, bump_of, cell_of, length_of, base_of, place_of, Sized}
 use Rattle.block.specs.Words.{length_in, fresh_spot, fresh_room, held_spot, held_room, room_under, room_in, stored, append_at, append_in}
 use Rattle.block.specs.Sound.{view_of, log_of, block_of, sum_to, entries_in, Laid, Done}
@@ -106,10 +104,10 @@ module _ {n : ℕ} {w : List ℕ} (L : Laid n w) (i : ℕ) (h : i < n) (less : s
   short : length_of n w i < n
   short = let a = sum-at n i (length_of n w) h in omega arith
 
-  told : length_in n w i ≡ looked.Word (length_of n w i)
-  told = length-reads i h L ∙ ap looked.Word (log-length_at n w i h)
+  told : length_in n w i ≡ Ok (length_of n w i)
+  told = length-reads i h L ∙ ap Ok (log-length_at n w i h)
 
-  room-opens : offset_of (length_of n w i) ≡ 0 → (s : Spot) × (room_in n w i ≡ At s)
+  room-opens : offset_of (length_of n w i) ≡ 0 → (s : Spot) × (room_in n w i ≡ Some s)
   unfolding room_in room_under fresh_room
   room-opens z =
       let f = L.sized.few in
@@ -120,7 +118,7 @@ module _ {n : ℕ} {w : List ℕ} (L : Laid n w) (i : ℕ) (h : i < n) (less : s
       let u = sum_slack n i (λ (k : ℕ). space_of (length_of n w k)) (length_of n w) h (λ k g. space-most (length_of n w k) (let y = L.sound.short k g in omega arith)) in
       (fresh_spot w (length_of n w i), simp (told, lt-ltb _ _ l, eq-eqb _ _ z, le-leb (bump_of w + (length_of n w i + 1)) (arena n) (omega arith)))
 
-  room-stands : (offset_of (length_of n w i) ≡ 0 → ⊥) → (s : Spot) × (room_in n w i ≡ At s)
+  room-stands : (offset_of (length_of n w i) ≡ 0 → ⊥) → (s : Spot) × (room_in n w i ≡ Some s)
   unfolding room_in room_under held_room
   room-stands z =
       let f = L.sized.few in
@@ -131,7 +129,7 @@ module _ {n : ℕ} {w : List ℕ} (L : Laid n w) (i : ℕ) (h : i < n) (less : s
       let r = L.sound.fits in
       (held_spot n w i (length_of n w i), simp (told, lt-ltb _ _ l, ne_eqb _ _ z, lt-ltb (place_of n w i (length_of n w i)) (arena n) (omega arith)))
 
-  pub room-found : (s : Spot) × (room_in n w i ≡ At s)
+  pub room-found : (s : Spot) × (room_in n w i ≡ Some s)
   room-found = by_test (eqb (offset_of (length_of n w i)) 0) (λ e. room-opens (eqb-true _ _ e)) (λ e. room-stands (eqb-false _ _ e))
 
 -- ---- the law

@@ -1,20 +1,17 @@
 -- The spot that an append has found: what it says of the words, and what the ways out of `append` owe.
 -- Rests on Rooms.
-use Rattle.std.specs.Prelude.{ℕ, ◌+◌, ◌≤◌, ◌<◌, ◌≡◌, ◌⊎◌, true, false, List, length, set, leb, ltb, eqb}
+use Rattle.std.specs.Prelude.{ℕ, ◌+◌, ◌≤◌, ◌<◌, ◌≡◌, ◌⊎◌, true, false, List, length, set, leb, ltb, eqb, Err, None, Ok, Option, Result, Some}
 use Rattle.std.proofs.Math.Path.{refl, sym}
 use Rattle.std.proofs.Common.{ap, ◌∙◌, subst, inl, inr, arith}
 use borrow.Author.Tests.{ltb-true, leb-true, eqb-true, eqb-false}
 use Rattle.rulebook.specs.Sizes.{most_cells, block_words, directory_width}
 use Rattle.rulebook.specs.Tests.{by_test}
-use Rattle.block.specs.declared.Looked.{Looked}
-use Rattle.block.specs.declared.Looked.TheVariants as looked
 use Rattle.block.specs.declared.change.Spot.{Spot}
-use Rattle.block.specs.declared.change.Room.{Room}
-use Rattle.block.specs.declared.change.Room.TheVariants.{At, Full}
 use Rattle.block.specs.Layout.{length_ix, base_ix, entry_ix, arena, chunk_of, offset_of, bump_of, length_of, base_of, place_of, Sized}
 use Rattle.block.specs.Words.{length_in, fresh_spot, fresh_room, held_spot, held_room, room_under, room_in, stored, append_at, append_in}
 use Rattle.block.specs.Ways.{head_in}
 use Rattle.block.specs.Rooms.{length-told, told-reach}
+use Rattle.rulebook.specs.declared.Damaged.{Damaged}
 
 -- a new chunk at the bump
 pub record Fresh (n : ℕ) (w : List ℕ) (m : ℕ) (s : Spot) : Type 0 where
@@ -41,11 +38,11 @@ pub record Planned (n : ℕ) (w : List ℕ) (i m : ℕ) (s : Spot) : Type 0 wher
   pub length : s.length ≡ m + 1
   pub kind : Fresh n w m s ⊎ Held n w i m s
 
-no_room_lem : {A : Type 0} {s : Spot} → Full ≡ At s → A
+no_room_lem : {A : Type 0} {s : Spot} → None ≡ Some s → A
 no_room_lem q = let z : ◌≡◌ {A = ℕ} 0 1 = cc in absurd (omega arith)
 
-module _ (n : ℕ) (w : List ℕ) (i m : ℕ) (s : Spot) (t : length_in n w i ≡ looked.Word m) (short : m < n) where
-  planned_by : (a : Spot) → At a ≡ At s → a.chunk ≡ chunk_of m → a.place ≡ a.base + offset_of m → a.place < arena n → a.length ≡ m + 1
+module _ (n : ℕ) (w : List ℕ) (i m : ℕ) (s : Spot) (t : length_in n w i ≡ Ok m) (short : m < n) where
+  planned_by : (a : Spot) → Some a ≡ Some s → a.chunk ≡ chunk_of m → a.place ≡ a.base + offset_of m → a.place < arena n → a.length ≡ m + 1
       → Fresh n w m a ⊎ Held n w i m a → Planned n w i m s
   planned_by a q c p f l k =
       let e : a ≡ s = cc in
@@ -53,7 +50,7 @@ module _ (n : ℕ) (w : List ℕ) (i m : ℕ) (s : Spot) (t : length_in n w i �
       subst (λ (x : Spot). Planned n w i m x) e
       (record { sized = d.sized; cell = d.cell; is = d.is; short = short; chunk = c; place = p; inside = f; length = l; kind = k })
 
-  fresh_planned : offset_of m ≡ 0 → fresh_room n w m ≡ At s → Planned n w i m s
+  fresh_planned : offset_of m ≡ 0 → fresh_room n w m ≡ Some s → Planned n w i m s
   unfolding fresh_room
   fresh_planned z h =
       by_test (leb (bump_of w + (m + 1)) (arena n))
@@ -62,24 +59,24 @@ module _ (n : ℕ) (w : List ℕ) (i m : ℕ) (s : Spot) (t : length_in n w i �
       planned_by (fresh_spot w m) (simp e at h) refl (omega arith) (omega arith) refl (inl (record { opens = z; base = refl; bump = refl; fits = l })))
       (λ e. no_room_lem (simp e at h))
 
-  held_planned : (offset_of m ≡ 0 → ⊥) → held_room n w i m ≡ At s → Planned n w i m s
+  held_planned : (offset_of m ≡ 0 → ⊥) → held_room n w i m ≡ Some s → Planned n w i m s
   unfolding held_room
   held_planned z h =
       by_test (ltb (place_of n w i m) (arena n))
       (λ e. planned_by (held_spot n w i m) (simp e at h) refl refl (ltb-true _ _ e) refl (inr (record { stands = z; base = refl; bump = refl })))
       (λ e. no_room_lem (simp e at h))
 
-under : (n : ℕ) (w : List ℕ) (i : ℕ) (s : Spot) (l : Looked) → length_in n w i ≡ l → room_under l n w i ≡ At s → (m : ℕ) × Planned n w i m s
+under : (n : ℕ) (w : List ℕ) (i : ℕ) (s : Spot) (l : Result ℕ Damaged) → length_in n w i ≡ l → room_under l n w i ≡ Some s → (m : ℕ) × Planned n w i m s
 unfolding room_under
-under n w i s looked.Bad t h = no_room_lem h
-under n w i s (looked.Word m) t h =
+under n w i s (Err _) t h = no_room_lem h
+under n w i s (Ok m) t h =
     by_test (ltb m n)
     (λ e. by_test (eqb (offset_of m) 0)
     (λ f. (m, fresh_planned n w i m s t (ltb-true m n e) (eqb-true _ _ f) (simp (e, f) at h)))
     (λ f. (m, held_planned n w i m s t (ltb-true m n e) (eqb-false _ _ f) (simp (e, f) at h))))
     (λ e. no_room_lem (simp e at h))
 
-pub room_planned : (n : ℕ) (w : List ℕ) (i : ℕ) (s : Spot) → room_in n w i ≡ At s → (m : ℕ) × Planned n w i m s
+pub room_planned : (n : ℕ) (w : List ℕ) (i : ℕ) (s : Spot) → room_in n w i ≡ Some s → (m : ℕ) × Planned n w i m s
 unfolding room_in
 room_planned n w i s h = under n w i s (length_in n w i) refl h
 
@@ -90,12 +87,12 @@ planned_wide {n} {w} {i} {m} {s} p =
 
 -- ---- the ways out of `append`
 
-module _ (r : Room) (n : ℕ) (w : List ℕ) (i : ℕ) (e : r ≡ room_in n w i) where
-  pub append-no : (v o : ℕ) → r ≡ Full → (w, false) ≡ append_in n w i v o
+module _ (r : Option Spot) (n : ℕ) (w : List ℕ) (i : ℕ) (e : r ≡ room_in n w i) where
+  pub append-no : (v o : ℕ) → r ≡ None → (w, false) ≡ append_in n w i v o
   unfolding append_in append_at
-  append-no v o q = sym (ap (λ (x : Room). append_at x n w i v o) (sym e ∙ q))
+  append-no v o q = sym (ap (λ (x : Option Spot). append_at x n w i v o) (sym e ∙ q))
 
-  module _ (s : Spot) (q : r ≡ At s) where
+  module _ (s : Spot) (q : r ≡ Some s) where
     plan : (m : ℕ) × Planned n w i m s
     plan = room_planned n w i s (sym e ∙ q)
 

@@ -1,19 +1,17 @@
 -- What a log's length, once answered, and the room found for an entry say of the words; and what the ways out of `entry` and `append` owe.
 -- Rests on Words, Ways and Chunks.
-use Rattle.std.specs.Prelude.{ℕ, ◌+◌, ◌≤◌, ◌<◌, ◌≡◌, List, length, get_or, leb}
+use Rattle.std.specs.Prelude.{ℕ, ◌+◌, ◌≤◌, ◌<◌, ◌≡◌, List, length, get_or, leb, Err, None, Ok, Option, Result, Some, true}
 use Rattle.std.proofs.Common.{sym, ◌∙◌, arith}
 use borrow.Author.Tests.{leb-true, lt-ltb, le-ltb, le-leb, lt-leb, eq-eqb, ne_eqb}
 use Rattle.rulebook.specs.Sizes.{most_cells, block_words}
 use Rattle.rulebook.specs.Tests.{by_test}
-use Rattle.block.specs.declared.Looked.{Looked}
-use Rattle.block.specs.declared.Looked.TheVariants as looked
-use Rattle.block.specs.declared.Probed.TheVariants as probed
-use Rattle.block.specs.declared.change.Room.{Room}
-use Rattle.block.specs.declared.change.Room.TheVariants.{At, Full}
 use Rattle.block.specs.Layout.{base_ix, entry_ix, arena, chunk_of, offset_of, bump_of, length_of, place_of, has_cell, Sized, Reach}
 use Rattle.block.specs.Words.{length_in, entry_under, entry_in, fresh_room, held_room, room_under, room_in}
 use Rattle.block.specs.Ways.{cell-block, head_in}
 use Rattle.block.specs.Chunks.{space_least, width_holds}
+use Rattle.rulebook.specs.Codes.{damaged}
+use Rattle.rulebook.specs.declared.Damaged.{Damaged}
+use Rattle.block.specs.declared.change.Spot.{Spot}
 
 -- ---- a length that was answered
 
@@ -23,17 +21,17 @@ pub record Told (n : ℕ) (w : List ℕ) (i m : ℕ) : Type 0 where
   pub is : m ≡ length_of n w i
   pub short : m ≤ n
 
-pub length-told : (n : ℕ) (w : List ℕ) (i m : ℕ) → length_in n w i ≡ looked.Word m → Told n w i m
+pub length-told : (n : ℕ) (w : List ℕ) (i m : ℕ) → length_in n w i ≡ Ok m → Told n w i m
 unfolding length_in
 length-told n w i m h =
     by_test (has_cell n w i)
     (λ e. by_test (leb (length_of n w i) n)
     (λ f.
-    let q : looked.Word (length_of n w i) ≡ looked.Word m = simp (e, f) at h in
+    let q : Ok (length_of n w i) ≡ Ok m = simp (e, f) at h in
     let z : m ≡ length_of n w i = cc in
     record { sized = (cell-block n w i e).0; cell = (cell-block n w i e).1; is = z; short = rw z (leb-true _ _ f) })
-    (λ f. let q : looked.Bad ≡ looked.Word m = simp (e, f) at h in let z : ◌≡◌ {A = ℕ} 0 1 = cc in absurd (omega arith)))
-    (λ e. let q : looked.Bad ≡ looked.Word m = simp e at h in let z : ◌≡◌ {A = ℕ} 0 1 = cc in absurd (omega arith))
+    (λ f. let q : (Err damaged) ≡ Ok m = simp (e, f) at h in let z : ◌≡◌ {A = ℕ} 0 1 = cc in absurd (omega arith)))
+    (λ e. let q : (Err damaged) ≡ Ok m = simp e at h in let z : ◌≡◌ {A = ℕ} 0 1 = cc in absurd (omega arith))
 
 -- the entries of a log, and the next one, have words in the directory
 pub told-reach : (n : ℕ) (w : List ℕ) (i m : ℕ) → Told n w i m → (j : ℕ) → j < n → Reach n w i j
@@ -42,17 +40,17 @@ told-reach n w i m t j h =
     let s = space_least n (omega arith) in
     record { sized = t.sized; cell = t.cell; small = omega arith; chunk = width_holds n n j f (omega arith) (omega arith) }
 
-module _ (l : Looked) (n : ℕ) (w : List ℕ) (i : ℕ) (e : l ≡ length_in n w i) where
-  module _ (q : l ≡ looked.Bad) where
-    pub entry-none : (j : ℕ) → probed.Bad ≡ entry_in n w i j
+module _ (l : Result ℕ Damaged) (n : ℕ) (w : List ℕ) (i : ℕ) (e : l ≡ length_in n w i) where
+  module _ (q : l ≡ Err damaged) where
+    pub entry-none : (j : ℕ) → Err damaged ≡ entry_in n w i j
     unfolding entry_in entry_under
     entry-none j = simp (sym e ∙ q)
 
-    pub room-none : Full ≡ room_in n w i
+    pub room-none : None ≡ room_in n w i
     unfolding room_in room_under
     room-none = simp (sym e ∙ q)
 
-  module _ (m : ℕ) (q : l ≡ looked.Word m) where
+  module _ (m : ℕ) (q : l ≡ Ok m) where
     told : Told n w i m
     told = length-told n w i m (sym e ∙ q)
 
@@ -65,20 +63,20 @@ module _ (l : Looked) (n : ℕ) (w : List ℕ) (i : ℕ) (e : l ≡ length_in n 
     pub entry-reach : (j : ℕ) → j < m → Reach n w i j
     entry-reach j h = let s = told.short in told-reach n w i m told j (omega arith)
 
-    pub entry_past : (j : ℕ) → m ≤ j → probed.Bad ≡ entry_in n w i j
+    pub entry_past : (j : ℕ) → m ≤ j → Err damaged ≡ entry_in n w i j
     unfolding entry_in entry_under
     entry_past j h = simp (sym e ∙ q, le-ltb _ _ h)
 
     module _ (j : ℕ) (h : j < m) (p a : ℕ) (at : p ≡ place_of n w i j) (all : a ≡ arena n) where
-      pub entry-out : a ≤ p → probed.Bad ≡ entry_in n w i j
+      pub entry-out : a ≤ p → Err damaged ≡ entry_in n w i j
       unfolding entry_in entry_under
       entry-out g = simp (sym e ∙ q, lt-ltb _ _ h, le-ltb (place_of n w i j) (arena n) (rw (at, all) at g))
 
-      pub entry_found : p < a → (x : ℕ) → x ≡ entry_ix n p → probed.Found (record { version = get_or w x 0; old = get_or w (x + 1) 0 }) ≡ entry_in n w i j
+      pub entry_found : p < a → (x : ℕ) → x ≡ entry_ix n p → Ok (record { version = get_or w x 0; old = get_or w (x + 1) 0 }) ≡ entry_in n w i j
       unfolding entry_in entry_under
       entry_found g x y = simp (sym e ∙ q, lt-ltb _ _ h, lt-ltb (place_of n w i j) (arena n) (rw (at, all) at g), y, at)
 
-    pub room-full : n ≤ m → Full ≡ room_in n w i
+    pub room-full : n ≤ m → None ≡ room_in n w i
     unfolding room_in room_under
     room-full h = simp (sym e ∙ q, le-ltb _ _ h)
 
@@ -88,7 +86,7 @@ module _ (l : Looked) (n : ℕ) (w : List ℕ) (i : ℕ) (e : l ≡ length_in n 
     pub room-reach : m < n → Reach n w i m
     room-reach h = told-reach n w i m told m h
 
-    module _ (h : m < n) (r : Room) (o : ℕ) (f : o ≡ offset_of m) where
+    module _ (h : m < n) (r : Option Spot) (o : ℕ) (f : o ≡ offset_of m) where
       pub room-fresh : o ≡ 0 → r ≡ fresh_room n w m → r ≡ room_in n w i
       unfolding room_in room_under
       room-fresh z g = simp (sym e ∙ q, lt-ltb _ _ h, eq-eqb _ _ (sym f ∙ z), g)
@@ -107,22 +105,22 @@ pub bump_in : (n : ℕ) (w : List ℕ) → Sized n w → 1 < length w
 bump_in n w s = head_in s 1 (omega arith)
 
 module _ (n : ℕ) (w : List ℕ) (m a t x : ℕ) (all : a ≡ arena n) (at : t ≡ bump_of w) (more : x ≡ m + 1) where
-  pub fresh-no : a < t + x → Full ≡ fresh_room n w m
+  pub fresh-no : a < t + x → None ≡ fresh_room n w m
   unfolding fresh_room
   fresh-no h = simp (lt-leb (bump_of w + (m + 1)) (arena n) (rw (all, at, more) at h))
 
   pub fresh-yes : t + x ≤ a → (c : ℕ) → c ≡ chunk_of m
-      → At (record { chunk = c; base = bump_of w; bump = bump_of w + (m + 1); place = t; length = m + 1 }) ≡ fresh_room n w m
+      → Some (record { chunk = c; base = bump_of w; bump = bump_of w + (m + 1); place = t; length = m + 1 }) ≡ fresh_room n w m
   unfolding fresh_room
   fresh-yes h c q = simp (le-leb (bump_of w + (m + 1)) (arena n) (rw (all, at, more) at h), q, at)
 
 module _ (n : ℕ) (w : List ℕ) (i m a p : ℕ) (all : a ≡ arena n) (at : p ≡ place_of n w i m) where
-  pub held-no : a ≤ p → Full ≡ held_room n w i m
+  pub held-no : a ≤ p → None ≡ held_room n w i m
   unfolding held_room
   held-no h = simp (le-ltb (place_of n w i m) (arena n) (rw (all, at) at h))
 
   pub held-yes : p < a → (c x : ℕ) → c ≡ chunk_of m → x ≡ base_ix n i c
-      → At (record { chunk = c; base = get_or w x 0; bump = bump_of w; place = p; length = m + 1 }) ≡ held_room n w i m
+      → Some (record { chunk = c; base = get_or w x 0; bump = bump_of w; place = p; length = m + 1 }) ≡ held_room n w i m
   unfolding held_room
   held-yes h c x q y = simp (lt-ltb (place_of n w i m) (arena n) (rw (all, at) at h), y, q, at)
 

@@ -1,12 +1,10 @@
 -- What each way through the walk owes: rules for the proofs of `mark_row` and `laid`.
 -- Rests on Walk, Chunks and Ways.
-use Rattle.std.specs.Prelude.{ℕ, suc, ◌+◌, ◌≤◌, ◌<◌, ◌≡◌, refl, Bool, true, false, not, List, length, get_or, set, replicate, eqb}
+use Rattle.std.specs.Prelude.{ℕ, suc, ◌+◌, ◌≤◌, ◌<◌, ◌≡◌, refl, Bool, true, false, not, List, length, get_or, set, replicate, eqb, None, Option, Some}
 use Rattle.std.proofs.Common.{sym, ap, ◌∙◌, subst, inl, ⊎_elim, true≢false, add-one, arith, eqb-true, below_more}
 use Rattle.std.proofs.lemmas.Bool.{false≢true, not-true, not-false, eqb-false}
 use Rattle.std.proofs.lemmas.List.{length-replicate, get_or-replicate}
 use Rattle.rulebook.specs.Sizes.{most_cells}
-use Rattle.block.specs.declared.walk.Row.{Row}
-use Rattle.block.specs.declared.walk.Row.TheVariants.{Marked, Broken}
 use Rattle.block.specs.Layout.{length_ix, arena, most_places, space_of, bump_of, length_of, place_of, is_block, Sized, Reach}
 use Rattle.block.specs.Sound.{view_of, sum_to, Sound, Laid}
 use Rattle.block.specs.Ways.{block-sized, sized-block, head_in}
@@ -16,12 +14,12 @@ use Rattle.block.specs.Walk.{Decides, count_of, Marks, RowIn, RowOut, RowAt, Row
 
 -- ---- a row
 
-broken : {n : ℕ} {w : List ℕ} {i : ℕ} {marks : List ℕ} → (Sound n (view_of n w) → ⊥) → RowOut Broken n w i marks
+broken : {n : ℕ} {w : List ℕ} {i : ℕ} {marks : List ℕ} → (Sound n (view_of n w) → ⊥) → RowOut None n w i marks
 broken h = record { done = λ k q. (let z : ◌≡◌ {A = ℕ} 0 1 = cc in absurd (omega arith)); no = λ _. h }
 
 module _ {n : ℕ} {w : List ℕ} {limit i : ℕ} {marks : List ℕ} (r : RowIn n w limit i marks) where
   module _ (x : ℕ) (e : x ≡ length_ix n i) where
-    pub row-long : n < get_or w x 0 → RowOut Broken n w i marks
+    pub row-long : n < get_or w x 0 → RowOut None n w i marks
     row-long h = broken (λ s. let a = s.short i r.cell in let l : n < length_of n w i = rw e at h in omega arith)
 
     pub row-start : (all : ℕ) → get_or w x 0 ≤ n → all ≡ space_of (get_or w x 0) → all < most_places → RowAt n w limit i (get_or w x 0) all marks 0
@@ -51,14 +49,14 @@ module _ {n : ℕ} {w : List ℕ} {limit i m all : ℕ} {marks : List ℕ} {j : 
     mine = subst (λ (x : ℕ). j < x) counted h
 
     module _ (p : ℕ) (e : p ≡ place_of n w i j) where
-      pub row-outside : limit ≤ p → RowOut Broken n w i marks
+      pub row-outside : limit ≤ p → RowOut None n w i marks
       row-outside l = broken (λ s. let a = s.below i j r.cell mine in let b = r.on.bump in omega arith)
 
       module _ (l : p < limit) where
         inside : place_of n w i j < most_places
         inside = let f = r.on.fits in omega arith
 
-        pub row_twice : get_or marks p 0 ≡ 0 → RowOut Broken n w i marks
+        pub row_twice : get_or marks p 0 ≡ 0 → RowOut None n w i marks
         row_twice z =
             let m = r.walked.marked (place_of n w i j) inside (sym (ap (λ (x : ℕ). get_or marks x 0) e) ∙ z) in
             broken (λ s.
@@ -88,7 +86,7 @@ module _ {n : ℕ} {w : List ℕ} {limit i m all : ℕ} {marks : List ℕ} {j : 
           below = below_more (λ (t : ℕ). place_of n w i t < bump_of w) j r.below (let b = r.on.bump in omega arith);
         }
 
-  pub row_done : all ≤ j → RowOut (Marked all) n w i marks
+  pub row_done : all ≤ j → RowOut (Some all) n w i marks
   row_done l = record {
     done = λ k q.
         let e : k ≡ all = cc in
@@ -108,47 +106,37 @@ undone : {P : Type 0} → (P → ⊥) → Decides false P
 undone h = record { yes = λ q. absurd (false≢true q); no = λ _. h }
 
 -- after the test of the slice
-module _ (r : Bool) (n : ℕ) (w : List ℕ) (e : r ≡ is_block n w) where
-  pub rows_unsized : not r ≡ true → Decides false (Laid n w)
-  rows_unsized h = undone (λ L. true≢false (sym (sized-block n w L.sized) ∙ sym e ∙ not-true r h))
+pub rows_unsized : (n : ℕ) (w : List ℕ) → false ≡ is_block n w → Decides false (Laid n w)
+rows_unsized n w e = undone (λ L. true≢false (sym (sized-block n w L.sized) ∙ sym e))
 
-  module _ (h : not r ≡ false) where
-    whole : Sized n w
-    whole = block-sized n w (sym e ∙ not-false r h)
+module _ (n : ℕ) (w : List ℕ) (whole : Sized n w) where
+  module _ (bump a : ℕ) (is : bump ≡ bump_of w) (all : a ≡ arena n) where
+    pub rows_past : a < bump → Decides false (Laid n w)
+    rows_past l = undone (λ L. let f = L.sound.fits in omega arith)
 
-    pub rows_few : n ≤ most_cells
-    rows_few = whole.few
-
-    pub rows_bump : 1 < length w
-    rows_bump = head_in whole 1 (omega arith)
-
-    module _ (bump a : ℕ) (is : bump ≡ bump_of w) (all : a ≡ arena n) where
-      pub rows_past : a < bump → Decides false (Laid n w)
-      rows_past l = undone (λ L. let f = L.sound.fits in omega arith)
-
-      pub rows_start : bump ≤ a → a ≤ most_places → RowsAt n w bump (replicate most_places 1) 0 0
-      rows_start l f = record {
-        on = record { sized = whole; bump = is; room = omega arith; fits = omega arith };
-        most = omega arith;
-        walked =
-            walk_start (count_of n w) (place_of n w) most_places (replicate most_places 1) (length-replicate {A = ℕ} most_places 1)
-            (λ p q z. omega (arith, get_or-replicate {A = ℕ} most_places p 1 0 q));
-        short = λ k q. absurd (omega arith);
-        below = λ k q. absurd (omega arith);
-        tally = refl;
-        small = omega arith;
-      }
+    pub rows_start : bump ≤ a → a ≤ most_places → RowsAt n w bump (replicate most_places 1) 0 0
+    rows_start l f = record {
+      on = record { sized = whole; bump = is; room = omega arith; fits = omega arith };
+      most = omega arith;
+      walked =
+          walk_start (count_of n w) (place_of n w) most_places (replicate most_places 1) (length-replicate {A = ℕ} most_places 1)
+          (λ p q z. omega (arith, get_or-replicate {A = ℕ} most_places p 1 0 q));
+      short = λ k q. absurd (omega arith);
+      below = λ k q. absurd (omega arith);
+      tally = refl;
+      small = omega arith;
+    }
 
 module _ {n : ℕ} {w : List ℕ} {bump : ℕ} {marks : List ℕ} {taken i : ℕ} (a : RowsAt n w bump marks taken i) where
   module _ (h : i < n) where
     pub rows_in : RowIn n w bump i marks
     rows_in = record { on = a.on; cell = h; walked = a.walked }
 
-    module _ (marks' : List ℕ) (r : Row) (o : RowOut r n w i marks') where
-      pub rows_broken : r ≡ Broken → Decides false (Laid n w)
+    module _ (marks' : List ℕ) (r : Option ℕ) (o : RowOut r n w i marks') where
+      pub rows_broken : r ≡ None → Decides false (Laid n w)
       rows_broken q = undone (λ L. o.no q L.sound)
 
-      module _ (k : ℕ) (q : r ≡ Marked k) where
+      module _ (k : ℕ) (q : r ≡ Some k) where
         pub rows_few-more : taken + k < 4294967296
         rows_few-more = let d = (o.done k q).few in let s = a.small in let f = a.on.sized.few in omega arith
 
@@ -190,7 +178,9 @@ module _ {n : ℕ} {w : List ℕ} {bump : ℕ} {marks : List ℕ} {taken i : ℕ
         no = λ q L. eqb-false t bump q (let y = L.sound.tally in omega arith);
       }
 
-pub ruleset starts = (rows_unsized, rows_few, rows_bump, rows_past, rows_start)
+pub ruleset row_ways = (row-long, row-start, row-outside, row_twice, row_step, row_done)
+
+pub ruleset rows_ways = (rows_unsized, rows_past, rows_start, rows_in, rows_broken, rows_few-more, rows_step, rows_done)
 
 -- what decides the same has the same answer
 pub decides_one : {P : Type 0} (r s : Bool) → Decides r P → Decides s P → r ≡ s

@@ -1,15 +1,14 @@
 -- One block of four cells, computed: it is taken from a slice full of old numbers, filled with 7, and set in place four times.
 -- Rests on Words and Sound; no law is used.
-use Rattle.std.specs.Prelude.{ℕ, ◌≡◌, refl, false, List, [], ◌∷◌, replicate}
+use Rattle.std.specs.Prelude.{ℕ, ◌≡◌, refl, false, List, [], ◌∷◌, replicate, Err, Ok}
 use Rattle.std.specs.Int.Count.{count_leading_zeros}
 use Rattle.rulebook.specs.Sizes.{block_words, directory_width}
 use Rattle.rulebook.specs.State.{list_to}
 use Rattle.rulebook.specs.declared.Entry.{Entry}
-use Rattle.block.specs.declared.Probed.TheVariants as probed
-use Rattle.block.specs.declared.Exchanged.TheVariants as exchanged
 use Rattle.block.specs.Layout.{cell_ix, length_ix, base_ix, entry_ix, arena, chunk_of, offset_of, bump_of, is_block, has_cell}
 use Rattle.block.specs.Words.{length_in, entry_under, entry_in, exchange_in, write_in, take_in, fill_in, fresh_room, held_room, room_under, room_in, stored, append_at, append_in}
 use Rattle.block.specs.Sound.{block_of}
+use Rattle.rulebook.specs.Codes.{damaged}
 
 abbrev old : List ℕ
 old = replicate 96 99
@@ -45,7 +44,7 @@ unfolding take_in fill_in exchange_in write_in append_in append_at stored room_i
 bump-is = refl
 
 -- a number outside the block or the layout is answered, and changes nothing
-entry_past : entry_in 4 filled 0 0 ≡ probed.Bad
+entry_past : entry_in 4 filled 0 0 ≡ Err damaged
 unfolding entry_in entry_under take_in fill_in length_in is_block has_cell block_words cell_ix length_ix
 entry_past = refl
 
@@ -53,10 +52,10 @@ append-to-old : append_in 4 old 0 0 7 ≡ (old, false)
 unfolding append_in append_at room_in room_under length_in is_block has_cell block_words length_ix
 append-to-old = refl
 
-exchange-other : exchange_in 4 filled 1 ≡ (filled, exchanged.Same)
+exchange-other : exchange_in 4 filled 1 ≡ (filled, Ok false)
 unfolding exchange_in take_in fill_in is_block has_cell block_words cell_ix length_ix
 exchange-other = refl
 
-exchange-short : exchange_in 5 old 99 ≡ (old, exchanged.Bad)
+exchange-short : exchange_in 5 old 99 ≡ (old, Err damaged)
 unfolding exchange_in is_block block_words
 exchange-short = refl

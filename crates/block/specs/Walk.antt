@@ -1,8 +1,6 @@
 -- What the walk over a block's places decides, and what holds from row to row and in a row.
 -- Rests on Marks and Sound.
-use Rattle.std.specs.Prelude.{ℕ, ◌+◌, ◌*◌, ◌≤◌, ◌<◌, ◌≡◌, Bool, true, false, List}
-use Rattle.block.specs.declared.walk.Row.{Row}
-use Rattle.block.specs.declared.walk.Row.TheVariants.{Marked, Broken}
+use Rattle.std.specs.Prelude.{ℕ, ◌+◌, ◌*◌, ◌≤◌, ◌<◌, ◌≡◌, Bool, true, false, List, None, Option, Some}
 use Rattle.block.specs.Layout.{arena, most_places, space_of, bump_of, length_of, place_of, Sized}
 use Rattle.block.specs.Sound.{view_of, sum_to, Sound}
 use Rattle.block.specs.Marks.{Walked}
@@ -41,9 +39,9 @@ pub record RowDone (k n : ℕ) (w : List ℕ) (i : ℕ) (marks : List ℕ) : Typ
   pub below : (j : ℕ) → j < count_of n w i → place_of n w i j < bump_of w
   pub walked : Marks n w marks (i + 1) 0
 
-pub record RowOut (r : Row) (n : ℕ) (w : List ℕ) (i : ℕ) (marks : List ℕ) : Type 0 where
-  pub done : (k : ℕ) → r ≡ Marked k → RowDone k n w i marks
-  pub no : r ≡ Broken → Sound n (view_of n w) → ⊥
+pub record RowOut (r : Option ℕ) (n : ℕ) (w : List ℕ) (i : ℕ) (marks : List ℕ) : Type 0 where
+  pub done : (k : ℕ) → r ≡ Some k → RowDone k n w i marks
+  pub no : r ≡ None → Sound n (view_of n w) → ⊥
 
 -- ---- the invariants of the two loops
 

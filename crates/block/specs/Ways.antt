@@ -1,14 +1,13 @@
 -- The tests of the slice decide what they are named for; and what each way out of a function that makes them owes, with the premises as the
 -- code's tests and calls give them: rules for the proofs of the functions. Rests on Words.
-use Rattle.std.specs.Prelude.{ℕ, ◌≤◌, ◌<◌, ◌+◌, ◌≡◌, Bool, true, false, not, ◌&&◌, List, length, get_or, set, leb, ltb, eqb}
+use Rattle.std.specs.Prelude.{ℕ, ◌≤◌, ◌<◌, ◌+◌, ◌≡◌, Bool, true, false, not, ◌&&◌, List, length, get_or, set, leb, ltb, eqb, Err, Ok}
 use Rattle.std.proofs.Common.{sym, ◌∙◌, length-set, arith}
 use borrow.Author.Tests.{ltb-true, leb-true, eqb-true, not-true, not-false, lt-ltb, le-leb, lt-leb, eq-eqb, ne_eqb}
 use Rattle.rulebook.specs.Sizes.{most_cells, block_words}
 use Rattle.rulebook.specs.Tests.{by_test, and_both}
 use Rattle.block.specs.Layout.{is_block, has_cell, Sized, cell_ix, length_ix, version_of}
-use Rattle.block.specs.declared.Looked.TheVariants as looked
-use Rattle.block.specs.declared.Exchanged.TheVariants as exchanged
 use Rattle.block.specs.Words.{version_in, cell_in, length_in, exchange_in, write_in, take_in, fill_in}
+use Rattle.rulebook.specs.Codes.{damaged}
 
 -- ---- the two tests decide what they are named for
 
@@ -66,11 +65,11 @@ module _ (r : Bool) (n : ℕ) (w : List ℕ) (e : r ≡ is_block n w) where
     unfolding has_cell
     has_no i = simp no
 
-    pub version-no : looked.Bad ≡ version_in n w
+    pub version-no : (Err damaged) ≡ version_in n w
     unfolding version_in
     version-no = simp no
 
-    pub exchange-no : (l : ℕ) → (w, exchanged.Bad) ≡ exchange_in n w l
+    pub exchange-no : (l : ℕ) → (w, Err damaged) ≡ exchange_in n w l
     unfolding exchange_in
     exchange-no l = simp no
 
@@ -95,20 +94,20 @@ module _ (r : Bool) (n : ℕ) (w : List ℕ) (e : r ≡ is_block n w) where
     unfolding has_cell
     has_as i = simp yes
 
-    pub version-yes : looked.Word (version_of w) ≡ version_in n w
+    pub version-yes : Ok (version_of w) ≡ version_in n w
     unfolding version_in
     version-yes = simp yes
 
-    pub exchange-same : (l : ℕ) → (version_of w ≡ l → ⊥) → (w, exchanged.Same) ≡ exchange_in n w l
+    pub exchange-same : (l : ℕ) → (version_of w ≡ l → ⊥) → (w, Ok false) ≡ exchange_in n w l
     unfolding exchange_in
     exchange-same l d = simp (yes, ne_eqb _ _ d)
 
     module _ (l : ℕ) (q : version_of w ≡ l) where
-      pub exchange-past : n < l → (w, exchanged.Bad) ≡ exchange_in n w l
+      pub exchange-past : n < l → (w, Err damaged) ≡ exchange_in n w l
       unfolding exchange_in
       exchange-past g = simp (yes, eq-eqb _ _ q, lt-leb _ _ g)
 
-      pub exchange-raised : l ≤ n → (set w 0 (l + 1), exchanged.Raised) ≡ exchange_in n w l
+      pub exchange-raised : l ≤ n → (set w 0 (l + 1), Ok true) ≡ exchange_in n w l
       unfolding exchange_in
       exchange-raised g = simp (yes, eq-eqb _ _ q, le-leb _ _ g)
 
@@ -130,11 +129,11 @@ module _ (r : Bool) (n : ℕ) (w : List ℕ) (i : ℕ) (e : r ≡ has_cell n w i
     none : has_cell n w i ≡ false
     none = sym e ∙ not-true r h
 
-    pub cell-no : looked.Bad ≡ cell_in n w i
+    pub cell-no : (Err damaged) ≡ cell_in n w i
     unfolding cell_in
     cell-no = simp none
 
-    pub length-no : looked.Bad ≡ length_in n w i
+    pub length-no : (Err damaged) ≡ length_in n w i
     unfolding length_in
     length-no = simp none
 
@@ -159,15 +158,15 @@ module _ (r : Bool) (n : ℕ) (w : List ℕ) (i : ℕ) (e : r ≡ has_cell n w i
     pub cell-inside : (x : ℕ) → x < block_words n → x < length w
     cell-inside x l = rw (cell-block n w i one).0.long l
 
-    pub cell-yes : (x : ℕ) → x ≡ cell_ix n i → looked.Word (get_or w x 0) ≡ cell_in n w i
+    pub cell-yes : (x : ℕ) → x ≡ cell_ix n i → Ok (get_or w x 0) ≡ cell_in n w i
     unfolding cell_in
     cell-yes x q = simp (one, q)
 
-    pub length-long : (x : ℕ) → x ≡ length_ix n i → n < get_or w x 0 → looked.Bad ≡ length_in n w i
+    pub length-long : (x : ℕ) → x ≡ length_ix n i → n < get_or w x 0 → Err damaged ≡ length_in n w i
     unfolding length_in
     length-long x q g = simp (one, lt-leb _ _ (rw q at g))
 
-    pub length-yes : (x : ℕ) → x ≡ length_ix n i → get_or w x 0 ≤ n → looked.Word (get_or w x 0) ≡ length_in n w i
+    pub length-yes : (x : ℕ) → x ≡ length_ix n i → get_or w x 0 ≤ n → Ok (get_or w x 0) ≡ length_in n w i
     unfolding length_in
     length-yes x q g = simp (one, q, le-leb _ _ (rw q at g))
 

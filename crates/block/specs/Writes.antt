@@ -1,6 +1,6 @@
 -- What the writing functions leave of a block: exactly the machine's change, and soundness where it was.
 -- Rests on Reads, Stores and Ways.
-use Rattle.std.specs.Prelude.{ℕ, ◌+◌, ◌≤◌, ◌<◌, ◌≡◌, true, length, get_or, set, leb, eqb}
+use Rattle.std.specs.Prelude.{ℕ, ◌+◌, ◌≤◌, ◌<◌, ◌≡◌, true, length, get_or, set, leb, eqb, None, Ok, Option, Some, false}
 use Rattle.std.proofs.Math.Path.{refl}
 use Rattle.std.proofs.Common.{sym, ap, ◌∙◌, subst, lt_of_lt_of_le, arith}
 use mathlib.Core.List.{List, []}
@@ -10,15 +10,13 @@ use borrow.Author.Tests.{le-leb, eq-eqb, ne_eqb}
 use Rattle.rulebook.specs.State.{Block, list_to, with_version, with_cell, with_log}
 use Rattle.rulebook.specs.Tests.{if_case}
 use Rattle.rulebook.specs.Lists.{list_to-same, list_to-set}
-use Rattle.block.specs.declared.Exchanged.TheVariants as exchanged
-use Rattle.block.specs.declared.change.Room.{Room}
-use Rattle.block.specs.declared.change.Room.TheVariants.{At, Full}
 use Rattle.block.specs.Layout.{cell_ix, length_ix, base_ix, version_of, cell_of, is_block, has_cell, Sized}
 use Rattle.block.specs.Words.{exchange_in, write_in, take_in, fill_in, room_in, stored, append_at, append_in}
 use Rattle.block.specs.Sound.{View, view_of, log_of, block_of, Sound, Laid, Filling, Done}
 use Rattle.block.specs.Ways.{sized-block, block-cell, head_in}
 use Rattle.block.specs.Stores.{cells_left, lengths-left, places-left, entries-left, head-low, cell-low, cell_not_head, length-low, lengths-low, length_not_low, cell_apart, length-apart, cell_in_lem, length_in_lem}
 use Rattle.block.specs.Reads.{version_at_lem, log-none}
+use Rattle.block.specs.declared.change.Spot.{Spot}
 
 -- ---- a store before the directory
 
@@ -109,7 +107,7 @@ module _ {n : ℕ} {w : List ℕ} (s : Sized n w) where
 -- ---- what each function does on the words of a block
 
 module _ {n : ℕ} {w : List ℕ} (s : Sized n w) where
-  pub exchange-is : (l : ℕ) → version_of w ≡ l → l ≤ n → exchange_in n w l ≡ (set w 0 (l + 1), exchanged.Raised)
+  pub exchange-is : (l : ℕ) → version_of w ≡ l → l ≤ n → exchange_in n w l ≡ (set w 0 (l + 1), Ok true)
   unfolding exchange_in
   exchange-is l e h = simp (sized-block n w s, eq-eqb _ _ e, le-leb _ _ h)
 
@@ -127,11 +125,11 @@ module _ {n : ℕ} {w : List ℕ} (s : Sized n w) where
 
   -- V = l: V is raised, and nothing else changes
   pub exchange_first : (l : ℕ) → (block_of n w).version ≡ l → l ≤ n
-      → ((exchange_in n w l).1 ≡ exchanged.Raised) × Done n w (exchange_in n w l).0 (with_version (block_of n w) (l + 1))
+      → ((exchange_in n w l).1 ≡ Ok true) × Done n w (exchange_in n w l).0 (with_version (block_of n w) (l + 1))
   exchange_first l e h = rw (exchange-is l (sym (version_at_lem n w) ∙ e) h) (refl, version-set s (l + 1))
 
   -- V differs: nothing changes
-  pub exchange-later : (l : ℕ) → ((block_of n w).version ≡ l → ⊥) → exchange_in n w l ≡ (w, exchanged.Same)
+  pub exchange-later : (l : ℕ) → ((block_of n w).version ≡ l → ⊥) → exchange_in n w l ≡ (w, Ok false)
   unfolding exchange_in
   exchange-later l d = simp (sized-block n w s, ne_eqb (version_of w) l (λ q. d (version_at_lem n w ∙ q)))
 
@@ -187,10 +185,10 @@ module _ (n : ℕ) (w : List ℕ) where
   unfolding fill_in
   fill-long i v = if_case Long (has_cell n w i) (λ _. simp length-set) (λ _. refl)
 
-  at_long : (r : Room) (i v o : ℕ) → length (append_at r n w i v o).0 ≡ length w
+  at_long : (r : Option Spot) (i v o : ℕ) → length (append_at r n w i v o).0 ≡ length w
   unfolding append_at stored
-  at_long (At s) i v o = simp length-set
-  at_long Full i v o = refl
+  at_long (Some s) i v o = simp length-set
+  at_long None i v o = refl
 
   pub append-long : (i v o : ℕ) → length (append_in n w i v o).0 ≡ length w
   unfolding append_in

@@ -1,12 +1,13 @@
 // What changes a block: the exchange of V, an entry more, a cell's new value, and taking and filling a block.
-ghost use Rattle.std.specs.Prelude.{◌≡◌, ◌<◌};
+ghost use Rattle.std.specs.Prelude.{◌≡◌, ◌<◌, is_ok};
 ghost use Rattle.block.specs.Layout.{Sized, Reach};
 ghost use Rattle.block.specs.Words.{exchange_in, write_in, take_in, fill_in, fresh_room, held_room, room_in, append_in};
 
 use super::{
-    BUMP, Exchanged, Looked, VERSION, base_at, cell_at, chunk, entry_at, has_cell, length_at,
-    log_length, offset, place, places, sized, wide,
+    BUMP, VERSION, base_at, cell_at, chunk, entry_at, has_cell, length_at, log_length, offset,
+    place, places, sized,
 };
+use rulebook::{Damaged, Entry};
 
 // What an append writes: the base of the entry's chunk, the bump, the entry's place in the arena, and the log's length.
 #[derive(Clone, Copy)]
@@ -18,140 +19,123 @@ pub struct Spot {
     pub length: u32,
 }
 
-// Where an entry goes, or that there is no room.
-#[derive(Clone, Copy)]
-pub enum Room {
-    At(Spot),
-    Full,
+/// If V is the number, which is at most as large as there are cells, V becomes one more. It answers whether it did.
+#[tactic(auto, unfolding(crate::specs::Words::exchange_in, rulebook::specs::Sizes::block_words))]
+pub fn exchange(block: &mut [u32], cells: u32, number: u32) -> Result<bool, Damaged>
+    ensures { (block.new, result) ≡ exchange_in cells block.old number }
+{
+    sized(block, cells)?;
+    if block[VERSION] != number {
+        return Ok(false);
+    }
+    if cells < number {
+        return Err(Damaged);
+    }
+    block[VERSION] = number + 1;
+    Ok(true)
 }
 
-// If V = l, V becomes l + 1; l is at most n.
-pub fn exchange(b: &mut [u32], n: u32, l: u32) -> Exchanged
-    ensures { (b.new, result) ≡ exchange_in n b.old l }
+/// Writes the cell.
+#[tactic(auto, unfolding(crate::specs::Words::write_in))]
+pub fn write(block: &mut [u32], cells: u32, cell: u32, value: u32) -> Result<(), Damaged>
+    ensures { (block.new, is_ok result) ≡ write_in cells block.old cell value }
 {
-    if !sized(b, n) {
-        return Exchanged::Bad;
-    }
-    if b[VERSION] != l {
-        return Exchanged::Same;
-    }
-    if n < l {
-        return Exchanged::Bad;
-    }
-    b[VERSION] = l + 1;
-    Exchanged::Raised
+    has_cell(block, cells, cell)?;
+    block[cell_at(cells, cell)] = value;
+    Ok(())
 }
 
-// Writes cell i.
-pub fn write(b: &mut [u32], n: u32, i: u32, v: u32) -> bool
-    ensures { (b.new, result) ≡ write_in n b.old i v }
+/// A block that is taken has V = 0 and nothing in its arena.
+#[tactic(auto, unfolding(crate::specs::Words::take_in, rulebook::specs::Sizes::block_words))]
+pub fn take(block: &mut [u32], cells: u32) -> Result<(), Damaged>
+    ensures { (block.new, is_ok result) ≡ take_in cells block.old }
 {
-    if !has_cell(b, n, i) {
-        return false;
-    }
-    let at = cell_at(n, i);
-    b[at] = v;
-    true
+    sized(block, cells)?;
+    block[VERSION] = 0;
+    block[BUMP] = 0;
+    Ok(())
 }
 
-// A block that is taken has V = 0 and nothing in its arena.
-pub fn take(b: &mut [u32], n: u32) -> bool
-    ensures { (b.new, result) ≡ take_in n b.old }
+/// Writes a cell of a block being filled, and empties its log.
+#[tactic(auto, unfolding(crate::specs::Words::fill_in))]
+pub fn fill(block: &mut [u32], cells: u32, cell: u32, value: u32) -> Result<(), Damaged>
+    ensures { (block.new, is_ok result) ≡ fill_in cells block.old cell value }
 {
-    if !sized(b, n) {
-        return false;
-    }
-    b[VERSION] = 0;
-    b[BUMP] = 0;
-    true
-}
-
-// Writes a cell of a block being filled, and empties its log.
-pub fn fill(b: &mut [u32], n: u32, i: u32, v: u32) -> bool
-    ensures { (b.new, result) ≡ fill_in n b.old i v }
-{
-    if !has_cell(b, n, i) {
-        return false;
-    }
-    let c = cell_at(n, i);
-    let m = length_at(n, i);
-    b[c] = v;
-    b[m] = 0;
-    true
+    has_cell(block, cells, cell)?;
+    block[cell_at(cells, cell)] = value;
+    block[length_at(cells, cell)] = 0;
+    Ok(())
 }
 
 // ---- appending
 
-// A new chunk for entry m, at the bump.
-fn fresh_room(b: &[u32], n: u32, m: u32) -> Room
-    requires { Sized n b.now × (m < n) }
-    ensures { result ≡ fresh_room n b.now m }
+// A new chunk for the entry after so many, at the bump.
+#[tactic(auto, using(crate::specs::Rooms::spots), unfolding(crate::specs::Words::fresh_room, rulebook::specs::Sizes::block_words))]
+fn fresh_room(block: &[u32], cells: u32, entries: u32) -> Option<Spot>
+    requires { Sized cells block.now × (entries < cells) }
+    ensures { result ≡ fresh_room cells block.now entries }
 {
-    let u = b[BUMP];
-    let at = wide(u);
-    let more = m + 1;
-    if places(n) < at + wide(more) {
-        return Room::Full;
+    let bump = block[BUMP];
+    let more = entries + 1;
+    if places(cells) < bump as usize + more as usize {
+        return None;
     }
-    Room::At(Spot {
-        chunk: chunk(m),
-        base: u,
-        bump: u + more,
-        place: at,
+    Some(Spot {
+        chunk: chunk(entries),
+        base: bump,
+        bump: bump + more,
+        place: bump as usize,
         length: more,
     })
 }
 
-// Entry m's place in a chunk that the log has.
-fn held_room(b: &[u32], n: u32, i: u32, m: u32) -> Room
-    requires { Reach n b.now i m }
-    ensures { result ≡ held_room n b.now i m }
+// Its place in a chunk that the log has.
+#[tactic(auto, using(crate::specs::Rooms::spots), unfolding(crate::specs::Words::held_room, rulebook::specs::Sizes::block_words))]
+fn held_room(block: &[u32], cells: u32, cell: u32, entries: u32) -> Option<Spot>
+    requires { Reach cells block.now cell entries }
+    ensures { result ≡ held_room cells block.now cell entries }
 {
-    let p = place(b, n, i, m);
-    if places(n) <= p {
-        return Room::Full;
+    let place = place(block, cells, cell, entries);
+    if places(cells) <= place {
+        return None;
     }
-    let c = chunk(m);
-    let at = base_at(n, i, c);
-    Room::At(Spot {
-        chunk: c,
-        base: b[at],
-        bump: b[BUMP],
-        place: p,
-        length: m + 1,
+    let chunk = chunk(entries);
+    Some(Spot {
+        chunk,
+        base: block[base_at(cells, cell, chunk)],
+        bump: block[BUMP],
+        place,
+        length: entries + 1,
     })
 }
 
-// Where the next entry of cell i's log goes.
-fn find_room(b: &[u32], n: u32, i: u32) -> Room
-    ensures { result ≡ room_in n b.now i }
+// Where the next entry of the cell's log goes.
+#[tactic(auto, using(crate::specs::Rooms::rooms), unfolding(crate::specs::Words::room_in, crate::specs::Words::room_under))]
+fn find_room(block: &[u32], cells: u32, cell: u32) -> Option<Spot>
+    ensures { result ≡ room_in cells block.now cell }
 {
-    let Looked::Word(m) = log_length(b, n, i) else {
-        return Room::Full;
-    };
-    if n <= m {
-        return Room::Full;
+    let entries = log_length(block, cells, cell).ok()?;
+    if cells <= entries {
+        return None;
     }
-    if offset(m) == 0 {
-        return fresh_room(b, n, m);
+    if offset(entries) == 0 {
+        fresh_room(block, cells, entries)
+    } else {
+        held_room(block, cells, cell, entries)
     }
-    held_room(b, n, i, m)
 }
 
-// Adds an entry to cell i's log; false where there is no room for it.
-pub fn append(b: &mut [u32], n: u32, i: u32, version: u32, old: u32) -> bool
-    ensures { (b.new, result) ≡ append_in n b.old i version old }
+/// Adds an entry to the cell's log. Damaged too where there is no room for it: a log with room is part of every sound block.
+#[tactic(auto, using(crate::proofs::Plans::appends), unfolding(crate::specs::Words::append_in, crate::specs::Words::append_at, crate::specs::Words::stored))]
+pub fn append(block: &mut [u32], cells: u32, cell: u32, entry: Entry) -> Result<(), Damaged>
+    ensures { (block.new, is_ok result) ≡ append_in cells block.old cell entry.version entry.old }
 {
-    let Room::At(s) = find_room(b, n, i) else {
-        return false;
-    };
-    let at = base_at(n, i, s.chunk);
-    let e = entry_at(n, s.place);
-    let m = length_at(n, i);
-    b[at] = s.base;
-    b[BUMP] = s.bump;
-    b[e] = version;
-    b[e + 1] = old;
-    b[m] = s.length;
-    true
+    let spot = find_room(block, cells, cell).ok_or(Damaged)?;
+    let at = entry_at(cells, spot.place);
+    block[base_at(cells, cell, spot.chunk)] = spot.base;
+    block[BUMP] = spot.bump;
+    block[at] = entry.version;
+    block[at + 1] = entry.old;
+    block[length_at(cells, cell)] = spot.length;
+    Ok(())
 }

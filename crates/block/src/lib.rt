@@ -1,19 +1,20 @@
 // One block's words, a lent part of the pool: V, the cells, and a log for each cell in chunks that double.
-// No public function asks anything of what the words say: a number outside the block or its layout is answered, and changes nothing. Those of raw ask for a block and a cell of it.
+// No public function asks anything of what the words say: a number outside the block or its layout is Damaged, and changes nothing. Those of raw ask for a block and a cell of it.
 #![tactic(auto)]
 
 mod change;
 mod raw;
 mod walk;
 
-ghost use Rattle.std.specs.Prelude.{◌≡◌, ◌+◌, ◌≤◌, ◌<◌};
+ghost use Rattle.std.specs.Prelude.{◌≡◌, ◌+◌, ◌≤◌, ◌<◌, is_ok, OnOk, IfOk};
 ghost use Rattle.rulebook.specs.Sizes.{most_cells, block_words, directory_width};
-ghost use Rattle.block.specs.Layout.{cell_ix, length_ix, base_ix, entry_ix, arena, most_places, chunk_of, offset_of, place_of, space_of, is_block, has_cell, Reach, Lies};
+ghost use Rattle.block.specs.Layout.{cell_ix, length_ix, base_ix, entry_ix, arena, most_places, chunk_of, offset_of, place_of, space_of, is_block, has_cell, Sized, Reach, Lies};
+ghost use Rattle.block.specs.Rooms.{Told};
 ghost use Rattle.block.specs.Words.{version_in, cell_in, length_in, entry_in};
 
 pub use change::{append, exchange, fill, take, write};
 pub use raw::{raw_bump, raw_length, raw_stamp, raw_version};
-use rulebook::Entry;
+use rulebook::{Damaged, Entry};
 pub use walk::laid;
 
 // The block's words: V, the bump, and words not used up to HEAD; a cell, a length and WIDTH words of the directory for each cell; the arena.
@@ -30,190 +31,165 @@ const CELLS: u32 = 4096;
 
 const PLACES: usize = 8192;
 
-// A word that was asked for, or that there is none.
-#[derive(Clone, Copy)]
-pub enum Looked {
-    Word(u32),
-    Bad,
-}
-
-// An entry that was asked for, or that there is none.
-#[derive(Clone, Copy)]
-pub enum Probed {
-    Found(Entry),
-    Bad,
-}
-
-// V was raised; V differs; or there is no such V to raise.
-#[derive(Clone, Copy)]
-pub enum Exchanged {
-    Raised,
-    Same,
-    Bad,
-}
-
-fn wide(x: u32) -> usize
-    ensures { (result ≡ x) × (result < 4294967296) }
+// The slice is a block of so many cells.
+#[tactic(auto, unfolding(crate::specs::Layout::is_block, rulebook::specs::Sizes::block_words))]
+fn sized(block: &[u32], cells: u32) -> Result<(), Damaged>
+    ensures test { is_ok result ≡ is_block cells block.now }
+    ensures sized { OnOk result (Sized cells block.now) }
 {
-    x as usize
+    if cells < 1 || CELLS < cells || block.len() != (20 * cells + 16) as usize {
+        return Err(Damaged);
+    }
+    Ok(())
 }
 
-// Whether the slice is a block of n cells.
-fn sized(b: &[u32], n: u32) -> bool
-    ensures { result ≡ is_block n b.now }
+// It is one, with this cell.
+#[tactic(auto, unfolding(crate::specs::Layout::has_cell))]
+fn has_cell(block: &[u32], cells: u32, cell: u32) -> Result<(), Damaged>
+    ensures test { is_ok result ≡ has_cell cells block.now cell }
+    ensures sized { OnOk result (Sized cells block.now × (cell < cells)) }
 {
-    if n < 1 {
-        return false;
+    sized(block, cells)?;
+    if cells <= cell {
+        return Err(Damaged);
     }
-    if CELLS < n {
-        return false;
-    }
-    b.len() == wide(20 * n + 16)
-}
-
-// Whether it is one, with a cell i.
-fn has_cell(b: &[u32], n: u32, i: u32) -> bool
-    ensures { result ≡ has_cell n b.now i }
-{
-    if !sized(b, n) {
-        return false;
-    }
-    i < n
+    Ok(())
 }
 
 // ---- where a word lies
 
-// Cell i.
-fn cell_at(n: u32, i: u32) -> usize
-    requires { (n ≤ most_cells) × (i < n) }
-    ensures { Lies n (cell_ix n i) result }
+// The cell.
+#[tactic(auto, unfolding(crate::specs::Layout::cell_ix, crate::specs::Layout::arena, rulebook::specs::Sizes::block_words, rulebook::specs::Sizes::directory_width))]
+fn cell_at(cells: u32, cell: u32) -> usize
+    requires { (cells ≤ most_cells) × (cell < cells) }
+    ensures { Lies cells (cell_ix cells cell) result }
 {
-    wide(HEAD + i)
+    (HEAD + cell) as usize
 }
 
-// The length of cell i's log.
-fn length_at(n: u32, i: u32) -> usize
-    requires { (n ≤ most_cells) × (i < n) }
-    ensures { Lies n (length_ix n i) result }
+// The length of its log.
+#[tactic(auto, unfolding(crate::specs::Layout::length_ix, crate::specs::Layout::arena, rulebook::specs::Sizes::block_words, rulebook::specs::Sizes::directory_width))]
+fn length_at(cells: u32, cell: u32) -> usize
+    requires { (cells ≤ most_cells) × (cell < cells) }
+    ensures { Lies cells (length_ix cells cell) result }
 {
-    wide(HEAD + n + i)
+    (HEAD + cells + cell) as usize
 }
 
-// The place at which chunk c of cell i's log begins.
-fn base_at(n: u32, i: u32, c: u32) -> usize
-    requires { (n ≤ most_cells) × (i < n) × (c < directory_width n) }
-    ensures { Lies n (base_ix n i c) result }
+// The place at which a chunk of its log begins.
+#[tactic(auto, unfolding(crate::specs::Layout::base_ix, crate::specs::Layout::arena, rulebook::specs::Sizes::block_words, rulebook::specs::Sizes::directory_width))]
+fn base_at(cells: u32, cell: u32, chunk: u32) -> usize
+    requires { (cells ≤ most_cells) × (cell < cells) × (chunk < directory_width cells) }
+    ensures { Lies cells (base_ix cells cell chunk) result }
 {
-    wide(HEAD + 2 * n + WIDTH * i + c)
+    (HEAD + 2 * cells + WIDTH * cell + chunk) as usize
 }
 
-// The version at place p of the arena; the old value is the next word.
-fn entry_at(n: u32, p: usize) -> usize
-    requires { (n ≤ most_cells) × (p < arena n) }
-    ensures { Lies n (entry_ix n p) result × (result + 1 < block_words n) }
+// The version at a place of the arena; the old value is the next word.
+#[tactic(auto, unfolding(crate::specs::Layout::entry_ix, crate::specs::Layout::arena, rulebook::specs::Sizes::block_words, rulebook::specs::Sizes::directory_width))]
+fn entry_at(cells: u32, place: usize) -> usize
+    requires { (cells ≤ most_cells) × (place < arena cells) }
+    ensures { Lies cells (entry_ix cells place) result × (result + 1 < block_words cells) }
 {
-    wide(HEAD + 2 * n + WIDTH * n) + 2 * p
+    (HEAD + 2 * cells + WIDTH * cells) as usize + 2 * place
 }
 
 // How many entries the arena holds.
-fn places(n: u32) -> usize
-    requires { n ≤ most_cells }
-    ensures { (result ≡ arena n) × (result ≤ most_places) }
+#[tactic(auto, unfolding(crate::specs::Layout::arena))]
+fn places(cells: u32) -> usize
+    requires { cells ≤ most_cells }
+    ensures { (result ≡ arena cells) × (result ≤ most_places) }
 {
-    wide(2 * n)
+    2 * cells as usize
 }
 
 // ---- a log's chunks
 
-// The chunk of entry j: floor(log2 (j + 1)).
-fn chunk(j: u32) -> u32
-    requires { j < 4294967295 }
-    ensures { (result ≡ chunk_of j) × (result < 32) }
+// The chunk of an entry: floor(log2 (index + 1)).
+#[tactic(auto, unfolding(crate::specs::Layout::chunk_of))]
+fn chunk(index: u32) -> u32
+    requires { index < 4294967295 }
+    ensures { (result ≡ chunk_of index) × (result < 32) }
 {
-    31 - u32::leading_zeros(j + 1)
+    (index + 1).ilog2()
 }
 
 // Its place in the chunk.
-fn offset(j: u32) -> u32
-    requires { j < 4294967295 }
-    ensures { result ≡ offset_of j }
+#[tactic(auto, using(crate::specs::Chunks::shifts))]
+fn offset(index: u32) -> u32
+    requires { index < 4294967295 }
+    ensures { result ≡ offset_of index }
 {
-    let c = chunk(j);
-    j + 1 - (1u32 << c)
+    index + 1 - (1 << chunk(index))
 }
 
-// The places of a log of m entries.
-fn space(m: u32) -> u32
-    requires { m ≤ most_cells }
-    ensures { (result ≡ space_of m) × (result < most_places) }
+// The places of a log of so many entries.
+#[tactic(auto, using(crate::specs::Chunks::shifts))]
+fn space(entries: u32) -> u32
+    requires { entries ≤ most_cells }
+    ensures { (result ≡ space_of entries) × (result < most_places) }
 {
-    (1u32 << (32 - u32::leading_zeros(m))) - 1
+    (1 << (32 - entries.leading_zeros())) - 1
 }
 
-// The arena's place of entry j of cell i.
-fn place(b: &[u32], n: u32, i: u32, j: u32) -> usize
-    requires { Reach n b.now i j }
-    ensures { result ≡ place_of n b.now i j }
+// The arena's place of an entry of the cell's log.
+fn place(block: &[u32], cells: u32, cell: u32, index: u32) -> usize
+    requires { Reach cells block.now cell index }
+    ensures { result ≡ place_of cells block.now cell index }
 {
-    let at = base_at(n, i, chunk(j));
-    wide(b[at]) + wide(offset(j))
+    let base = block[base_at(cells, cell, chunk(index))];
+    base as usize + offset(index) as usize
 }
 
 // ---- reading
 
-// The block's version V.
-pub fn version(b: &[u32], n: u32) -> Looked
-    ensures { result ≡ version_in n b.now }
+/// The block's version V.
+#[tactic(auto, unfolding(crate::specs::Words::version_in, rulebook::specs::Sizes::block_words))]
+pub fn version(block: &[u32], cells: u32) -> Result<u32, Damaged>
+    ensures { result ≡ version_in cells block.now }
 {
-    if !sized(b, n) {
-        return Looked::Bad;
-    }
-    Looked::Word(b[VERSION])
+    sized(block, cells)?;
+    Ok(block[VERSION])
 }
 
-// Cell i.
-pub fn cell(b: &[u32], n: u32, i: u32) -> Looked
-    ensures { result ≡ cell_in n b.now i }
+/// The cell.
+#[tactic(auto, unfolding(crate::specs::Words::cell_in, rulebook::specs::Sizes::block_words))]
+pub fn cell(block: &[u32], cells: u32, cell: u32) -> Result<u32, Damaged>
+    ensures { result ≡ cell_in cells block.now cell }
 {
-    if !has_cell(b, n, i) {
-        return Looked::Bad;
-    }
-    let at = cell_at(n, i);
-    Looked::Word(b[at])
+    has_cell(block, cells, cell)?;
+    Ok(block[cell_at(cells, cell)])
 }
 
-// How many entries cell i's log has: at most n.
-pub fn log_length(b: &[u32], n: u32, i: u32) -> Looked
-    ensures { result ≡ length_in n b.now i }
+/// How many entries the cell's log has: at most as many as the block has cells.
+#[tactic(auto, unfolding(crate::specs::Words::length_in, rulebook::specs::Sizes::block_words))]
+pub fn log_length(block: &[u32], cells: u32, cell: u32) -> Result<u32, Damaged>
+    ensures answer { result ≡ length_in cells block.now cell }
+    ensures told { IfOk result (λ length. Told cells block.now cell length) }
 {
-    if !has_cell(b, n, i) {
-        return Looked::Bad;
+    has_cell(block, cells, cell)?;
+    let length = block[length_at(cells, cell)];
+    if cells < length {
+        return Err(Damaged);
     }
-    let at = length_at(n, i);
-    let m = b[at];
-    if n < m {
-        return Looked::Bad;
-    }
-    Looked::Word(m)
+    Ok(length)
 }
 
-// Entry j of cell i's log.
-pub fn entry(b: &[u32], n: u32, i: u32, j: u32) -> Probed
-    ensures { result ≡ entry_in n b.now i j }
+/// An entry of the cell's log.
+#[tactic(auto, using(crate::specs::Rooms::entries), unfolding(crate::specs::Words::entry_in, crate::specs::Words::entry_under))]
+pub fn entry(block: &[u32], cells: u32, cell: u32, index: u32) -> Result<Entry, Damaged>
+    ensures { result ≡ entry_in cells block.now cell index }
 {
-    let Looked::Word(m) = log_length(b, n, i) else {
-        return Probed::Bad;
-    };
-    if m <= j {
-        return Probed::Bad;
+    if log_length(block, cells, cell)? <= index {
+        return Err(Damaged);
     }
-    let p = place(b, n, i, j);
-    if places(n) <= p {
-        return Probed::Bad;
+    let place = place(block, cells, cell, index);
+    if places(cells) <= place {
+        return Err(Damaged);
     }
-    let at = entry_at(n, p);
-    Probed::Found(Entry {
-        version: b[at],
-        old: b[at + 1],
+    let at = entry_at(cells, place);
+    Ok(Entry {
+        version: block[at],
+        old: block[at + 1],
     })
 }

@@ -1,4 +1,4 @@
-// Words of a block as they stand, whatever they say: what the check reads. Asked of a slice that is a block of n cells.
+// Words of a block as they stand, whatever they say: what the check reads. Asked of a slice that is a block of so many cells.
 ghost use Rattle.std.specs.Prelude.{◌≡◌, ◌≤◌, ◌<◌};
 ghost use Rattle.block.specs.Layout.{Sized, bump_of, length_of, version_of};
 ghost use Rattle.block.specs.Raw.{stamp_in};
@@ -8,40 +8,41 @@ use super::{BUMP, VERSION, entry_at, length_at, place, places};
 // A version that rule 3 allows no entry: V is at most N + 1.
 const OUTSIDE: u32 = 4294967295;
 
-// V.
-pub fn raw_version(b: &[u32], n: u32) -> u32
-    requires { Sized n b.now }
-    ensures { result ≡ version_of b.now }
+/// V.
+#[tactic(auto, unfolding(rulebook::specs::Sizes::block_words))]
+pub fn raw_version(block: &[u32], cells: u32) -> u32
+    requires { Sized cells block.now }
+    ensures { result ≡ version_of block.now }
 {
-    b[VERSION]
+    block[VERSION]
 }
 
-// The bump.
-pub fn raw_bump(b: &[u32], n: u32) -> u32
-    requires { Sized n b.now }
-    ensures { result ≡ bump_of b.now }
+/// The bump.
+#[tactic(auto, unfolding(rulebook::specs::Sizes::block_words))]
+pub fn raw_bump(block: &[u32], cells: u32) -> u32
+    requires { Sized cells block.now }
+    ensures { result ≡ bump_of block.now }
 {
-    b[BUMP]
+    block[BUMP]
 }
 
-// The length of cell i's log.
-pub fn raw_length(b: &[u32], n: u32, i: u32) -> u32
-    requires { Sized n b.now × (i < n) }
-    ensures { result ≡ length_of n b.now i }
+/// The length of the cell's log.
+pub fn raw_length(block: &[u32], cells: u32, cell: u32) -> u32
+    requires { Sized cells block.now × (cell < cells) }
+    ensures { result ≡ length_of cells block.now cell }
 {
-    let at = length_at(n, i);
-    b[at]
+    block[length_at(cells, cell)]
 }
 
-// The version of entry j of that log, wherever the log ends; OUTSIDE where its place is not in the arena.
-pub fn raw_stamp(b: &[u32], n: u32, i: u32, j: u32) -> u32
-    requires { Sized n b.now × (i < n) × (j ≤ n) }
-    ensures { result ≡ stamp_in n b.now i j }
+/// The version of an entry of that log, wherever the log ends; OUTSIDE where its place is not in the arena.
+#[tactic(auto, using(crate::specs::Raw::raws))]
+pub fn raw_stamp(block: &[u32], cells: u32, cell: u32, index: u32) -> u32
+    requires { Sized cells block.now × (cell < cells) × (index ≤ cells) }
+    ensures { result ≡ stamp_in cells block.now cell index }
 {
-    let p = place(b, n, i, j);
-    if places(n) <= p {
+    let place = place(block, cells, cell, index);
+    if places(cells) <= place {
         return OUTSIDE;
     }
-    let at = entry_at(n, p);
-    b[at]
+    block[entry_at(cells, place)]
 }

@@ -2,62 +2,49 @@
 ghost use Rattle.block.specs.Sound.{Laid};
 ghost use Rattle.block.specs.Walk.{Decides, RowIn, RowOut};
 
-use super::{BUMP, PLACES, length_at, place, places, sized, space, wide};
+use super::{BUMP, PLACES, length_at, place, places, sized, space};
 
-// A row of places, all inside and none marked before, and how many; or not.
-#[derive(Clone, Copy)]
-pub enum Row {
-    Marked(u32),
-    Broken,
+// Marks the places of the cell's log: how many they are, where all are inside and none was marked before.
+#[tactic(auto, using(crate::specs::Rows::row_ways))]
+fn mark_row(block: &[u32], cells: u32, limit: usize, cell: u32, marks: &mut [u32]) -> Option<u32>
+    requires { RowIn cells block.now limit cell marks.old }
+    ensures { RowOut result cells block.now cell marks.new }
+{
+    let length = block[length_at(cells, cell)];
+    if cells < length {
+        return None;
+    }
+    let all = space(length);
+    for index in 0..all {
+        let place = place(block, cells, cell, index);
+        if limit <= place || marks[place] == 0 {
+            return None;
+        }
+        marks[place] = 0;
+    }
+    Some(all)
 }
 
-// Marks the places of cell i's log.
-fn mark_row(b: &[u32], n: u32, limit: usize, i: u32, marks: &mut [u32]) -> Row
-    requires { RowIn n b.now limit i marks.old }
-    ensures { RowOut result n b.now i marks.new }
+/// Whether the slice is a block of so many cells whose logs are sound.
+#[tactic(auto, using(crate::specs::Rows::rows_ways), unfolding(rulebook::specs::Sizes::block_words))]
+pub fn laid(block: &[u32], cells: u32) -> bool
+    ensures { Decides result (Laid cells block.now) }
 {
-    let at = length_at(n, i);
-    let m = b[at];
-    if n < m {
-        return Row::Broken;
-    }
-    let all = space(m);
-    let mut j: u32 = 0;
-    while j < all {
-        let p = place(b, n, i, j);
-        if limit <= p {
-            return Row::Broken;
-        }
-        if marks[p] == 0 {
-            return Row::Broken;
-        }
-        marks[p] = 0;
-        j += 1;
-    }
-    Row::Marked(all)
-}
-
-// Whether the slice is a block of n cells whose logs are sound.
-pub fn laid(b: &[u32], n: u32) -> bool
-    ensures { Decides result (Laid n b.now) }
-{
-    if !sized(b, n) {
+    let Ok(()) = sized(block, cells) else {
         return false;
-    }
-    let bump = wide(b[BUMP]);
-    if places(n) < bump {
+    };
+    let bump = block[BUMP] as usize;
+    if places(cells) < bump {
         return false;
     }
     // A mark is 0 once its place is taken.
     let mut marks = [1u32; PLACES];
     let mut taken: u32 = 0;
-    let mut i: u32 = 0;
-    while i < n {
-        let Row::Marked(k) = mark_row(b, n, bump, i, &mut marks) else {
+    for cell in 0..cells {
+        let Some(row) = mark_row(block, cells, bump, cell, &mut marks) else {
             return false;
         };
-        taken += k;
-        i += 1;
+        taken += row;
     }
-    wide(taken) == bump
+    taken as usize == bump
 }

@@ -7,10 +7,10 @@ use Rattle.std.proofs.Math.Dec.{eqb}
 use Rattle.std.proofs.Math.ListN.{get_or}
 use Rattle.std.proofs.Math.Seq.{get_or-set_other, get_or-set_same}
 use borrow.Author.Tests.{eqb-false, eqb-true, ltb-true}
-use Rattle.acts.specs.declared.Act.{Act}
-use Rattle.acts.specs.declared.SlotChange.{SlotChange}
-use Rattle.acts.specs.declared.TaskChange.{TaskChange}
-use Rattle.acts.specs.declared.Touch.{Touch}
+use Rattle.acts.specs.Acts.{Act}
+use Rattle.acts.specs.Acts.{SlotChange}
+use Rattle.acts.specs.Acts.{TaskChange}
+use Rattle.acts.specs.Acts.{Touch}
 use Rattle.rulebook.specs.declared.Entry.{Entry}
 use Rattle.rulebook.specs.declared.Sizes.{Sizes}
 use Rattle.rulebook.specs.declared.Slot.{Slot}
@@ -19,7 +19,7 @@ use Rattle.rulebook.specs.declared.Task.{Task}
 use Rattle.acts.specs.Acted.{acted, seated, touched, turned}
 use Rattle.block.specs.Sound.{Filling, Laid}
 use Rattle.layout.specs.Acts.{Appendable, applied_acted, applied_done, applied_keeps, seated-keeps, slot_named, task_named, touched-keeps, turned-keeps}
-use Rattle.layout.specs.Codes.{code_of, stage_from_lem, status_code}
+use Rattle.rulebook.specs.Codes.{code_of, stage_from_lem, status_code}
 use Rattle.layout.specs.Keeps.{Keeps, keeps-header, keeps-spans, none, slot-keeps, slot-own, task-keeps, task-own}
 use Rattle.layout.specs.Places.{Spans, block_part, slot_part, task_part}
 use Rattle.layout.specs.Pool.{InReach, applied_in, put_slot, put_task, seated_in, slot_near, task_near, touched_in, turned_in, view_of}
@@ -37,9 +37,8 @@ use Rattle.rules.specs.Rules.{Rules}
 use Rattle.bridge.specs.Asked.{Bridged}
 use Rattle.bridge.specs.Shown.{sound-shape, spans}
 use Rattle.bridge.specs.Sound.{Sound, filled_to}
-use Rattle.acts.specs.declared.Touch.TheVariants as touch
-use Rattle.acts.specs.declared.SlotChange.TheVariants as slot
-use Rattle.acts.specs.declared.TaskChange.TheVariants as task
+use Rattle.acts.specs.Acts as touch
+use Rattle.acts.specs.Acts as change
 use Rattle.rulebook.specs.declared.Status.TheVariants as status
 
 module _ (d : Sizes) (p : List ℕ) where
@@ -53,12 +52,12 @@ module _ (d : Sizes) (p : List ℕ) where
 
   -- a slot that becomes live stands on a block that is laid out; a task that goes on filling has filled so far
   abbrev pub Seats : Touch → SlotChange → Type 0
-  Seats x slot.Same = Unit
-  Seats x (slot.To j y) = is_live y.status ≡ true → Laid d.n (words_after x y.block)
+  Seats x change.Same = Unit
+  Seats x (change.To j y) = is_live y.status ≡ true → Laid d.n (words_after x y.block)
 
   abbrev pub Turns : Touch → TaskChange → Type 0
-  Turns x task.Same = Unit
-  Turns x (task.To t k) = fills k.stage ≡ true → FillingAt x k
+  Turns x change.Same = Unit
+  Turns x (change.To t k) = fills k.stage ≡ true → FillingAt x k
 
   pub record Doable (a : Act) : Type 0 where
     pub reach : InReach d a
@@ -104,8 +103,8 @@ module _ {d : Sizes} {p : List ℕ} (g : Spans d p) (c : Coded d p) where
 
   coded-seated : (y : SlotChange) → slot_near d y ≡ true → Coded d (seated_in p d y)
   unfolding seated_in slot_near
-  coded-seated slot.Same h = c
-  coded-seated (slot.To j x) h =
+  coded-seated change.Same h = c
+  coded-seated (change.To j x) h =
       let a = ltb-true j d.h h in
       let s = slot-keeps g j a x in
       record {
@@ -122,8 +121,8 @@ module _ {d : Sizes} {p : List ℕ} (g : Spans d p) (c : Coded d p) where
 
   coded-turned : (y : TaskChange) → task_near d y ≡ true → Coded d (turned_in p d y)
   unfolding turned_in task_near
-  coded-turned task.Same h = c
-  coded-turned (task.To t k) h =
+  coded-turned change.Same h = c
+  coded-turned (change.To t k) h =
       let a = ltb-true t d.t h in
       let s = task-keeps g t a k in
       record {
@@ -148,32 +147,32 @@ module _ (s : State) where
 
   seated-tasks : (c : SlotChange) → (seated s c).tasks ≡ s.tasks
   unfolding seated with_slot
-  seated-tasks slot.Same = refl
-  seated-tasks (slot.To j y) = refl
+  seated-tasks change.Same = refl
+  seated-tasks (change.To j y) = refl
 
   turned-slots : (c : TaskChange) → (turned s c).slots ≡ s.slots
   unfolding turned with_task
-  turned-slots task.Same = refl
-  turned-slots (task.To t k) = refl
+  turned-slots change.Same = refl
+  turned-slots (change.To t k) = refl
 
 -- the slots after a change, and the tasks
 abbrev slots_after : SlotChange → List Slot → List Slot
-slots_after slot.Same l = l
-slots_after (slot.To j y) l = set l j y
+slots_after change.Same l = l
+slots_after (change.To j y) l = set l j y
 
 abbrev tasks_after : TaskChange → List Task → List Task
-tasks_after task.Same l = l
-tasks_after (task.To t k) l = set l t k
+tasks_after change.Same l = l
+tasks_after (change.To t k) l = set l t k
 
 seated-slots : (s : State) (c : SlotChange) → (seated s c).slots ≡ slots_after c s.slots
 unfolding seated with_slot
-seated-slots s slot.Same = refl
-seated-slots s (slot.To j y) = refl
+seated-slots s change.Same = refl
+seated-slots s (change.To j y) = refl
 
 turned-tasks : (s : State) (c : TaskChange) → (turned s c).tasks ≡ tasks_after c s.tasks
 unfolding turned with_task
-turned-tasks s task.Same = refl
-turned-tasks s (task.To t k) = refl
+turned-tasks s change.Same = refl
+turned-tasks s (change.To t k) = refl
 
 module _ (s : State) (a : Act) where
   acted-slots : (acted s a).0.slots ≡ slots_after a.slot s.slots
@@ -216,16 +215,16 @@ module _ {d : Sizes} {p : List ℕ} (S : Sound d p) (a : Act) (D : Doable d p a)
 
   seated-laid : (c : SlotChange) → Seats d p a.touch c → (k : ℕ) → k < d.b → any (λ (x : Slot). is_live x.status && eqb x.block k) (slots_after c s.slots) ≡ true → Laid d.n (words_after d p a.touch k)
   unfolding stood
-  seated-laid slot.Same y k h l = D.stands k h l
-  seated-laid (slot.To j x) y k h l =
+  seated-laid change.Same y k h l = D.stands k h l
+  seated-laid (change.To j x) y k h l =
       by_test (is_live x.status && eqb x.block k)
       (λ e. let b = and_both _ _ e in subst (λ (m : ℕ). Laid d.n (words_after d p a.touch m)) (eqb-true _ k b.1) (y b.0))
       (λ e. D.stands k h (any_set (λ (z : Slot). is_live z.status && eqb z.block k) s.slots j x e l))
 
   turned-filling : (c : TaskChange) → a.task ≡ c → Turns d p a.touch c → task_near d c ≡ true → (u : ℕ) → fills (get_or (tasks_after c s.tasks) u idle).stage ≡ true → FillingAt d p a.touch (get_or (tasks_after c s.tasks) u idle)
   unfolding task_near task_named
-  turned-filling task.Same e y h u l = D.others u (rw e) l
-  turned-filling (task.To t k) e y h u l =
+  turned-filling change.Same e y h u l = D.others u (rw e) l
+  turned-filling (change.To t k) e y h u l =
       by_test (eqb u t)
       (λ r. let z : get_or (set s.tasks t k) u idle ≡ k = ap (λ (m : ℕ). get_or (set s.tasks t k) m idle) (eqb-true u t r) ∙ get_or-set_same s.tasks t k idle (omega (arith, ltb-true t d.t h, view_tasks d p)) in
       subst⁻¹ (FillingAt d p a.touch) z (y (ap (λ (m : Task). fills m.stage) (sym z) ∙ l)))

@@ -1,6 +1,6 @@
 -- From a sight that shows a state, the pool's or the state's own, the looks and the report answer what the machine's do.
 -- Rests on Alike and on rule 2: a live handle stands on a block that is there.
-use Rattle.std.specs.Prelude.{◌+◌, ◌<◌, suc, zero, ℕ, Bool, ◌&&◌, ◌||◌, false, true, List, [], ◌∷◌, ◌≡◌, refl, eqb, get_or, if◌then◌else◌}
+use Rattle.std.specs.Prelude.{◌+◌, ◌<◌, suc, zero, ℕ, Bool, ◌&&◌, ◌||◌, false, true, List, [], ◌∷◌, ◌≡◌, refl, eqb, get_or, if◌then◌else◌, Err, None, Ok, Option, Result, Some}
 use Rattle.std.proofs.lemmas.Bool.{false≢true}
 use Rattle.std.proofs.Math.Bool.{not}
 use Rattle.std.proofs.Common.{true≢false, ◌∙◌, arith}
@@ -8,10 +8,7 @@ use Rattle.std.proofs.Math.Path.{ap, ap₂, sym}
 use Rattle.std.proofs.Math.Dec.{leb}
 use Rattle.std.proofs.Math.ListN.{length}
 use borrow.Author.Tests.{eqb-true, leb-false, leb-true}
-use Rattle.acts.specs.declared.Counted.{Counted}
-use Rattle.acts.specs.declared.Found.{Found}
-use Rattle.block.specs.declared.Looked.{Looked}
-use Rattle.layout.specs.declared.Header.{Header}
+use Rattle.acts.specs.Acts.{Found}
 use Rattle.rulebook.specs.declared.Reply.{Reply}
 use Rattle.rulebook.specs.declared.Sizes.{Sizes}
 use Rattle.rulebook.specs.declared.Slot.{Slot}
@@ -34,10 +31,9 @@ use Rattle.bridge.specs.Planned.{found_case, stander-good, stander-is}
 use Rattle.bridge.specs.Searches.{good_if, is_bad}
 use Rattle.bridge.specs.Shown.{Shows, sight-shows, sound-shape}
 use Rattle.bridge.specs.Sound.{Sound}
-use Rattle.acts.specs.declared.Found.TheVariants as found
-use Rattle.acts.specs.declared.Counted.TheVariants as counted
 use Rattle.rulebook.specs.declared.Reply.TheVariants as reply
 use Rattle.rulebook.specs.declared.Status.TheVariants as status
+use Rattle.rulebook.specs.declared.Damaged.{Damaged}
 
 -- what `any` finds is there
 pub any_found : {A : Type 0} (p : A → Bool) (l : List A) (d : A) → any p l ≡ true → (j : ℕ) × (p (get_or l j d) ≡ true)
@@ -68,23 +64,23 @@ count-more q (suc m) k =
     let g : one (q (suc k + m)) ≡ one (q (k + suc m)) = ap (λ (x : ℕ). one (q x)) z in
     omega arith
 
-plus_one : (m : ℕ) (x : Found) (b : Bool) → is_bad x ≡ false → is_none x ≡ not b → plus (counted.Of m) x ≡ counted.Of (m + one b)
+plus_one : (m : ℕ) (x : Found) (b : Bool) → is_bad x ≡ false → is_none x ≡ not b → plus (Ok m) x ≡ Ok (m + one b)
 unfolding plus
-plus_one m found.Bad b g n = absurd (true≢false g)
-plus_one m (found.At j) true g n = refl
-plus_one m (found.At j) false g n = absurd (false≢true n)
-plus_one m found.None true g n = absurd (true≢false n)
-plus_one m found.None false g n = ap counted.Of (omega arith)
+plus_one m (Err _) b g n = absurd (true≢false g)
+plus_one m (Ok (Some j)) true g n = refl
+plus_one m (Ok (Some j)) false g n = absurd (false≢true n)
+plus_one m (Ok None) true g n = absurd (true≢false n)
+plus_one m (Ok None) false g n = ap Ok (omega arith)
 
 -- a count of what is found is the count of the test that finds it
-count-found : (f : ℕ → Found) (q : ℕ → Bool) (m : ℕ) → ((j : ℕ) → j < m → (is_bad (f j) ≡ false) × (is_none (f j) ≡ not (q j))) → count_of f m ≡ counted.Of (count q m 0)
+count-found : (f : ℕ → Found) (q : ℕ → Bool) (m : ℕ) → ((j : ℕ) → j < m → (is_bad (f j) ≡ false) × (is_none (f j) ≡ not (q j))) → count_of f m ≡ Ok (count q m 0)
 unfolding count_of count
 count-found f q zero h = refl
 count-found f q (suc m) h =
     let a = h m (omega arith) in
     let z : m ≡ 0 + m = omega arith in
-    ap (λ (x : Counted). plus x (f m)) (count-found f q m (λ j l. h j (omega arith))) ∙ plus_one (count q m 0) (f m) (q m) a.0 a.1
-    ∙ ap counted.Of (ap (λ (x : ℕ). count q m 0 + one (q x)) z ∙ sym (count-more q m 0))
+    ap (λ (x : Result ℕ Damaged). plus x (f m)) (count-found f q m (λ j l. h j (omega arith))) ∙ plus_one (count q m 0) (f m) (q m) a.0 a.1
+    ∙ ap Ok (ap (λ (x : ℕ). count q m 0 + one (q x)) z ∙ sym (count-more q m 0))
 
 none_if : (b : Bool) (j : ℕ) → is_none (found_if b j) ≡ not b
 none_if true j = refl
@@ -130,7 +126,7 @@ module _ {e : Sight} {s : State} (W : Shows e s) (sh : Shape s) (r : Rules s) wh
   unfolding sees_entry look_entry sees_under shows_entry
   entry-sees b i j =
       let m = length (log_at (block_at s b) i) in
-      cell_or b i _ _ (λ l q. ap (λ (x : Looked). sees_under x e b i j) (W.log b i (stood-below s r b l) q l) ∙ by_test (leb m j)
+      cell_or b i _ _ (λ l q. ap (λ (x : Result ℕ Damaged). sees_under x e b i j) (W.log b i (stood-below s r b l) q l) ∙ by_test (leb m j)
       (λ g. rw g)
       (λ g. rw g (ap shows_entry (W.entry b i j (stood-below s r b l) q l (leb-false m j g)))))
       ∙ ap (λ (x : Reply). if not (stood s b) then reply.Refused 12 else x) (sym (refuse_both (leb s.sizes.n i) (leb m j) _ _))
@@ -145,11 +141,11 @@ module _ {e : Sight} {s : State} (W : Shows e s) (sh : Shape s) (r : Rules s) wh
 
   -- ---- the report
 
-  lives_are : count_of (lives_at e) s.sizes.h ≡ counted.Of (count (λ (j : ℕ). is_live (slot_at s j).status) s.sizes.h 0)
+  lives_are : count_of (lives_at e) s.sizes.h ≡ Ok (count (λ (j : ℕ). is_live (slot_at s j).status) s.sizes.h 0)
   unfolding lives_at live_at
   lives_are = count-found (lives_at e) _ s.sizes.h (λ j l. rw (W.slot j l) (good_if (is_live (slot_at s j).status) j, none_if (is_live (slot_at s j).status) j))
 
-  standers_are : count_of (stander_in e) s.sizes.b ≡ counted.Of (count (stood s) s.sizes.b 0)
+  standers_are : count_of (stander_in e) s.sizes.b ≡ Ok (count (stood s) s.sizes.b 0)
   standers_are = count-found (stander_in e) (stood s) s.sizes.b (λ b l. (ap is_bad (stander-alike W sh b) ∙ stander-good s sh b, ap is_none (stander-alike W sh b) ∙ stander-is s sh b))
 
   pub report-sees : sees_report e ≡ report s
@@ -162,7 +158,7 @@ module _ {e : Sight} {s : State} (W : Shows e s) (sh : Shape s) (r : Rules s) wh
 module _ {d : Sizes} {p : List ℕ} (S : Sound d p) where
   seen : (x : Sight → Reply) (r : Reply) → x (sight p d) ≡ r → seen_in (header_of p) p x ≡ r
   unfolding seen_in
-  seen x r e = ap (λ (z : Header). seen_in z p x) S.header ∙ e
+  seen x r e = ap (λ (z : Option Sizes). seen_in z p x) S.header ∙ e
 
   W : Shows (sight p d) (view_of d p)
   W = sight-shows d p S

@@ -7,7 +7,7 @@ use Rattle.std.proofs.Math.Dec.{eqb}
 use Rattle.rulebook.specs.declared.Sizes.{Sizes}
 use Rattle.rulebook.specs.declared.Slot.{Slot}
 use Rattle.rulebook.specs.declared.Task.{Task}
-use Rattle.layout.specs.Codes.{code_of, stage_from, stage_of}
+use Rattle.rulebook.specs.Codes.{code_of, stage_from, stage_of}
 use Rattle.layout.specs.Header.{sizes_of}
 use Rattle.layout.specs.Opened.{open-header, open_not, open-reply, open_rows, open_view}
 use Rattle.layout.specs.Parts.{get_or-part}

@@ -1,15 +1,14 @@
 -- On the machine's state, what a call plans is what the machine does: doing the plan gives the machine's next state and answer.
 -- Rests on Searches and on the store's shape; PlannedStep has the step.
-use Rattle.std.specs.Prelude.{◌+◌, ℕ, Bool, ◌&&◌, ◌||◌, ◌≡◌, if◌then◌else◌}
+use Rattle.std.specs.Prelude.{◌+◌, ℕ, Bool, ◌&&◌, ◌||◌, ◌≡◌, if◌then◌else◌, Err, None, Ok, Some}
 use Rattle.std.proofs.Math.Bool.{false, not, true}
 use Rattle.std.proofs.lemmas.Bool.{false≢true}
 use Rattle.std.proofs.Common.{true≢false, ◌∙◌}
 use Rattle.std.proofs.Math.Path.{ap, refl}
 use Rattle.std.proofs.Math.Dec.{eqb, leb, ltb}
 use borrow.Author.Tests.{le-leb, le-ltb, leb-false, leb-true, lt-ltb}
-use Rattle.acts.specs.declared.Act.{Act}
-use Rattle.acts.specs.declared.Found.{Found}
-use Rattle.acts.specs.declared.Live.{Live}
+use Rattle.acts.specs.Acts.{Act}
+use Rattle.acts.specs.Acts.{Found}
 use Rattle.rulebook.specs.declared.Slot.{Slot}
 use Rattle.rulebook.specs.declared.Task.{Task}
 use Rattle.acts.specs.Acted.{acted, seated, touched, turned}
@@ -26,11 +25,10 @@ use Rattle.rules.specs.Rules.{Rules}
 use Rattle.theorems.specs.Invariant.Calls.{is_live_lem}
 use Rattle.theorems.specs.Invariant.Shape.{Shape}
 use Rattle.bridge.specs.Searches.{first_good, first-lowest, first-same, good_if, is_bad, row_search}
-use Rattle.acts.specs.declared.Found.TheVariants as found
-use Rattle.acts.specs.declared.Live.TheVariants as live
 use Rattle.rulebook.specs.declared.Stage.TheVariants as stage
 use Rattle.rulebook.specs.declared.Reading.TheVariants as reading
 use Rattle.rulebook.specs.declared.Reply.TheVariants as reply
+use Rattle.acts.specs.declared.Refusal.{Refusal}
 
 -- an act that a test chooses
 pub acted_if : (s : State) (b : Bool) (x y : Act) → acted s (if b then x else y) ≡ (if b then acted s x else acted s y)
@@ -49,7 +47,7 @@ refuse_or s false n a r h = h refl
 -- ---- what the searches find
 
 module _ (s : State) (sh : Shape s) where
-  pub vacant-is : vacant_in (sight_of s) ≡ (if ltb (free_slot s) s.sizes.h then found.At (free_slot s) else found.None)
+  pub vacant-is : vacant_in (sight_of s) ≡ (if ltb (free_slot s) s.sizes.h then Ok (Some (free_slot s)) else Ok None)
   unfolding vacant_in vacant_at vacant sight_of free_slot
   vacant-is = first-lowest (λ (j : ℕ). is_free (slot_at s j).status && ltb (slot_at s j).serial last_serial) s.sizes.h
 
@@ -79,12 +77,12 @@ module _ (s : State) (sh : Shape s) where
   filler-good b = first_good (λ (t : ℕ). found_if (fills (task_at s t).stage && eqb (task_at s t).target b) t) s.sizes.t (λ t. good_if (fills (task_at s t).stage && eqb (task_at s t).target b) t)
 
   -- what a search that is not bad says of the test that it makes
-  pub found_case {ℓ} : (P : Found → Type ℓ) (x : Found) (b : Bool) → is_bad x ≡ false → is_none x ≡ not b → (b ≡ false → P found.None) → ((j : ℕ) → b ≡ true → P (found.At j)) → P x
-  found_case P found.Bad b g n absent present = absurd (true≢false g)
-  found_case P (found.At j) true g n absent present = present j refl
-  found_case P (found.At j) false g n absent present = absurd (false≢true n)
-  found_case P found.None true g n absent present = absurd (true≢false n)
-  found_case P found.None false g n absent present = absent refl
+  pub found_case {ℓ} : (P : Found → Type ℓ) (x : Found) (b : Bool) → is_bad x ≡ false → is_none x ≡ not b → (b ≡ false → P (Ok None)) → ((j : ℕ) → b ≡ true → P (Ok (Some j))) → P x
+  found_case P (Err _) b g n absent present = absurd (true≢false g)
+  found_case P (Ok (Some j)) true g n absent present = present j refl
+  found_case P (Ok (Some j)) false g n absent present = absurd (false≢true n)
+  found_case P (Ok None) true g n absent present = absurd (true≢false n)
+  found_case P (Ok None) false g n absent present = absent refl
 
   free_at-is : (b : ℕ) → free_at (sight_of s) b ≡ found_if (not (held s b)) b
   unfolding free_at holder_in held or_else unheld
@@ -93,7 +91,7 @@ module _ (s : State) (sh : Shape s) where
       (λ e. rw e (found_case (λ (x : Found). unheld x b ≡ found_if (not (filling s b)) b) (filler_in (sight_of s) b) (filling s b) (filler-good b) (filler-is b) (λ f. rw f) (λ j f. rw f)))
       (λ j e. rw e)
 
-  pub free_is : free_in (sight_of s) ≡ (if ltb (free_block s) s.sizes.b then found.At (free_block s) else found.None)
+  pub free_is : free_in (sight_of s) ≡ (if ltb (free_block s) s.sizes.b then Ok (Some (free_block s)) else Ok None)
   unfolding free_in free_block
   free_is =
       first-same (free_at (sight_of s)) (λ (b : ℕ). found_if (not (held s b)) b) _ (λ b _. free_at-is b) ∙ ap (first_of (λ (b : ℕ). found_if (not (held s b)) b)) sizes ∙ first-lowest (λ (b : ℕ). not (held s b)) s.sizes.b
@@ -104,11 +102,11 @@ module _ (s : State) (sh : Shape s) where
   -- ---- the starts and release
 
   -- by rule 2 a live handle stands in the pool
-  placed-is : Rules s → (j : ℕ) → is_live (slot_at s j).status ≡ true → placed s.sizes (slot_at s j) ≡ live.On (slot_at s j)
+  placed-is : Rules s → (j : ℕ) → is_live (slot_at s j).status ≡ true → placed s.sizes (slot_at s j) ≡ Ok (slot_at s j)
   unfolding placed
   placed-is R j l = let q = live_stood s R j (is_live_lem _ l) in rw (lt-ltb (slot_at s j).block s.sizes.b q.block_in_b, le-leb (slot_at s j).number s.sizes.n q.at_most_n)
 
-  live_is : Rules s → (h : ℕ) → live_in (sight_of s) h ≡ (if live_handle s h then live.On (slot_at s (slot_of h)) else live.Not 7)
+  live_is : Rules s → (h : ℕ) → live_in (sight_of s) h ≡ (if live_handle s h then Ok (slot_at s (slot_of h)) else Err 7)
   unfolding live_in live_row sight_of live_handle
   live_is R h =
       by_test (leb s.sizes.h (slot_of h))
@@ -129,22 +127,22 @@ module _ (s : State) (sh : Shape s) where
   module _ (t h i v : ℕ) where
     pub planned_get : Rules s → acted s (plan_get (sight_of s) t h i) ≡ start_get s t h i
     unfolding plan_get start_get get_on sight_of begun acted touched seated turned
-    planned_get R = start_or t _ _ (ap (λ (x : Live). acted s (get_on x (sight_of s) t h i)) (live_is R h) ∙ on (live_handle s h))
+    planned_get R = start_or t _ _ (ap (λ (x : Result Slot Refusal). acted s (get_on x (sight_of s) t h i)) (live_is R h) ∙ on (live_handle s h))
       where
-        on : (b : Bool) → acted s (get_on (if b then live.On (slot_at s (slot_of h)) else live.Not 7) (sight_of s) t h i) ≡ (if not b then (s, reply.Refused 7) else if leb s.sizes.n i then (s, reply.Refused 8) else (with_task s t (begun s h (stage.Getting reading.Guess) i 0 0 0), reply.Quiet))
+        on : (b : Bool) → acted s (get_on (if b then Ok (slot_at s (slot_of h)) else Err 7) (sight_of s) t h i) ≡ (if not b then (s, reply.Refused 7) else if leb s.sizes.n i then (s, reply.Refused 8) else (with_task s t (begun s h (stage.Getting reading.Guess) i 0 0 0), reply.Quiet))
         on false = refl
         on true = refuse_or s (leb s.sizes.n i) 8 _ _ (λ _. refl)
 
     pub planned_page : Rules s → acted s (plan_page (sight_of s) t h i v) ≡ start_page s t h i v
     unfolding plan_page start_page page_on sight_of begun acted touched seated turned
-    planned_page R = start_or t _ _ (ap (λ (x : Live). acted s (page_on x (sight_of s) t h i v)) (live_is R h) ∙ on (live_handle s h))
+    planned_page R = start_or t _ _ (ap (λ (x : Result Slot Refusal). acted s (page_on x (sight_of s) t h i v)) (live_is R h) ∙ on (live_handle s h))
       where
-        on : (b : Bool) → acted s (page_on (if b then live.On (slot_at s (slot_of h)) else live.Not 7) (sight_of s) t h i v) ≡ (if not b then (s, reply.Refused 7) else if eqb v 0 || ltb s.sizes.n (i + v) then (s, reply.Refused 8) else (with_task s t (begun s h (stage.Paging reading.Guess) i 0 (i + v) 0), reply.Quiet))
+        on : (b : Bool) → acted s (page_on (if b then Ok (slot_at s (slot_of h)) else Err 7) (sight_of s) t h i v) ≡ (if not b then (s, reply.Refused 7) else if eqb v 0 || ltb s.sizes.n (i + v) then (s, reply.Refused 8) else (with_task s t (begun s h (stage.Paging reading.Guess) i 0 (i + v) 0), reply.Quiet))
         on false = refl
         on true = refuse_or s (eqb v 0 || ltb s.sizes.n (i + v)) 8 _ _ (λ _. refl)
 
     -- a slot is reserved, or there is none
-    reserve_or : (k : ℕ → Task) (f : Found → Act) → f found.None ≡ refused 9 → ((j : ℕ) → f (found.At j) ≡ reserves_for ((sight_of s).slot j) j t (k j))
+    reserve_or : (k : ℕ → Task) (f : Found → Act) → f (Ok None) ≡ refused 9 → ((j : ℕ) → f (Ok (Some j)) ≡ reserves_for ((sight_of s).slot j) j t (k j))
         → acted s (f (vacant_in (sight_of s))) ≡ (if no_slot s then (s, reply.Refused 9) else (with_task (reserve s) t (k (free_slot s)), reply.Quiet))
     unfolding reserves_for sight_of reserve acted touched seated turned
     reserve_or k f absent present =
@@ -158,18 +156,18 @@ module _ (s : State) (sh : Shape s) where
 
     pub planned_set : Rules s → acted s (plan_set (sight_of s) t h i v) ≡ start_set s t h i v
     unfolding plan_set start_set set_on set_at begun sight_of
-    planned_set R = start_or t _ _ (ap (λ (x : Live). acted s (set_on x (sight_of s) t h i v)) (live_is R h) ∙ on (live_handle s h))
+    planned_set R = start_or t _ _ (ap (λ (x : Result Slot Refusal). acted s (set_on x (sight_of s) t h i v)) (live_is R h) ∙ on (live_handle s h))
       where
-        on : (b : Bool) → acted s (set_on (if b then live.On (slot_at s (slot_of h)) else live.Not 7) (sight_of s) t h i v)
+        on : (b : Bool) → acted s (set_on (if b then Ok (slot_at s (slot_of h)) else Err 7) (sight_of s) t h i v)
             ≡ (if not b then (s, reply.Refused 7) else if leb s.sizes.n i then (s, reply.Refused 8) else if no_slot s then (s, reply.Refused 9) else (with_task (reserve s) t (begun s h stage.Exchange i v 0 (free_slot s)), reply.Quiet))
         on false = acted-refused s 7
         on true = refuse_or s (leb s.sizes.n i) 8 _ _ (λ _. reserve_or (λ (j : ℕ). begun s h stage.Exchange i v 0 j) (λ (x : Found). set_at x (sight_of s) (slot_at s (slot_of h)) t h i v) refl (λ j. refl))
 
   pub planned_release : Rules s → (h : ℕ) → acted s (plan_release (sight_of s) h) ≡ release s h
   unfolding plan_release release release_on release_at acted touched seated turned
-  planned_release R h = ap (λ (x : Live). acted s (release_on x (sight_of s) h)) (live_is R h) ∙ on (live_handle s h)
+  planned_release R h = ap (λ (x : Result Slot Refusal). acted s (release_on x (sight_of s) h)) (live_is R h) ∙ on (live_handle s h)
     where
-      on : (b : Bool) → acted s (release_on (if b then live.On (slot_at s (slot_of h)) else live.Not 7) (sight_of s) h)
+      on : (b : Bool) → acted s (release_on (if b then Ok (slot_at s (slot_of h)) else Err 7) (sight_of s) h)
           ≡ (if not b then (s, reply.Refused 7) else if in_use s (slot_of h) then (s, reply.Refused 11) else (with_slot s (slot_of h) (freed (slot_at s (slot_of h)).serial), reply.Quiet))
       on false = refl
       on true =

@@ -1,12 +1,11 @@
 -- On the machine's state, what a step plans is what the machine's step does, at every stage.
 -- Rests on Planned, and on three facts of the task: a search in hand is not over, a slot that it has reserved is not spent, its numbers are small.
-use Rattle.std.specs.Prelude.{◌+◌, ◌<◌, ℕ, false, true, ◌≡◌, eqb, leb, length}
+use Rattle.std.specs.Prelude.{◌+◌, ◌<◌, ℕ, false, true, ◌≡◌, eqb, leb, length, Err, None, Ok, Result, Some}
 use Rattle.std.proofs.Common.{◌∙◌, subst}
 use Rattle.std.proofs.Math.Path.{ap, refl}
 use borrow.Author.Tests.{le-ltb, leb-false, leb-true, lt-leb, lt-ltb}
-use Rattle.acts.specs.declared.Found.{Found}
-use Rattle.acts.specs.declared.Read.{Read}
-use Rattle.acts.specs.declared.Touch.{Touch}
+use Rattle.acts.specs.Acts.{Found}
+use Rattle.acts.specs.Acts.{Touch}
 use Rattle.rulebook.specs.declared.Hand.{Hand}
 use Rattle.rulebook.specs.declared.Progress.{Progress}
 use Rattle.rulebook.specs.declared.Reading.{Reading}
@@ -24,13 +23,12 @@ use Rattle.rulebook.specs.Tests.{by_test, if_case}
 use Rattle.theorems.specs.Invariant.Shape.{Shape}
 use Rattle.theorems.specs.Prices.Digits.{Unsettled}
 use Rattle.bridge.specs.Planned.{acted_if, acted-refused, free_is}
-use Rattle.acts.specs.declared.Found.TheVariants as found
-use Rattle.acts.specs.declared.Read.TheVariants as read
-use Rattle.acts.specs.declared.Touch.TheVariants as touch
+use Rattle.acts.specs.Acts as touch
 use Rattle.rulebook.specs.declared.Stage.TheVariants as stage
 use Rattle.rulebook.specs.declared.Reading.TheVariants as reading
 use Rattle.rulebook.specs.declared.Progress.TheVariants as progress
 use Rattle.rulebook.specs.declared.Reply.TheVariants as reply
+use Rattle.rulebook.specs.declared.Damaged.{Damaged}
 
 -- what a step asks of its task beyond what it reads
 abbrev pub Searching : Stage → Hand → Type 0
@@ -61,22 +59,22 @@ pub record Steady (s : State) (k : Task) : Type 0 where
 
 -- ---- a get keeps the cell in hand
 
-abbrev pub CellKept : ℕ → Read → Type 0
-CellKept i read.Bad = Unit
-CellKept i (read.Got (progress.Going r w)) = w.cell ≡ i
-CellKept i (read.Got (progress.Settled w)) = w.cell ≡ i
+abbrev pub CellKept : ℕ → Result Progress Damaged → Type 0
+CellKept i (Err _) = Unit
+CellKept i (Ok (progress.Going r w)) = w.cell ≡ i
+CellKept i (Ok (progress.Settled w)) = w.cell ≡ i
 
 pub cell-kept : (s : State) (r : Reading) (k : Task) → CellKept k.hand.cell (read_in r (sight_of s) k)
 unfolding read_in read_guess read_version read_length read_entry sight_of
 cell-kept s reading.Guess k = refl
-cell-kept s reading.Version k = if_case (λ (q : Progress). CellKept k.hand.cell (read.Got q)) (eqb (block_at s k.block).version k.number) (λ _. refl) (λ _. refl)
-cell-kept s reading.Length k = if_case (λ (q : Progress). CellKept k.hand.cell (read.Got q)) (eqb (length (log_at (block_at s k.block) k.hand.cell)) 0) (λ _. refl) (λ _. refl)
+cell-kept s reading.Version k = if_case (λ (q : Progress). CellKept k.hand.cell (Ok q)) (eqb (block_at s k.block).version k.number) (λ _. refl) (λ _. refl)
+cell-kept s reading.Length k = if_case (λ (q : Progress). CellKept k.hand.cell (Ok q)) (eqb (length (log_at (block_at s k.block) k.hand.cell)) 0) (λ _. refl) (λ _. refl)
 cell-kept s reading.Probe k =
     let e = entry_at (log_at (block_at s k.block) k.hand.cell) (middle k.hand) in
     let q = probed_at (middle k.hand) e k.number k.hand in
     let same : q.cell ≡ k.hand.cell = if_case (λ (w : Hand). w.cell ≡ k.hand.cell) (leb k.number e.version) (λ _. refl) (λ _. refl) in
     if_case (CellKept k.hand.cell) (leb k.hand.hi k.hand.lo) (λ _. tt) (λ _.
-    if_case (λ (z : Progress). CellKept k.hand.cell (read.Got z)) (eqb q.lo q.hi) (λ _. same) (λ _. same))
+    if_case (λ (z : Progress). CellKept k.hand.cell (Ok z)) (eqb q.lo q.hi) (λ _. same) (λ _. same))
 
 -- ---- a step
 
@@ -87,26 +85,26 @@ ticked-is k h = rw (after_small h)
 
 module _ (s : State) (sh : Shape s) (t : ℕ) where
   -- the get's step, from what it reads
-  read_is : (r : Reading) (k : Task) → Unsettled r k.hand → read_in r (sight_of s) k ≡ read.Got (get_step r (here_of s k) k.number k.hand)
+  read_is : (r : Reading) (k : Task) → Unsettled r k.hand → read_in r (sight_of s) k ≡ Ok (get_step r (here_of s k) k.number k.hand)
   unfolding read_in read_guess read_version read_length read_entry sight_of get_step probed
   read_is reading.Guess k o = refl
   read_is reading.Version k o = refl
   read_is reading.Length k o = refl
   read_is reading.Probe k o = rw (lt-leb k.hand.hi k.hand.lo o)
 
-  get_planned : (q : Progress) (k : Task) → acted s (get_goes (read.Got q) t k) ≡ got_get q s t k
+  get_planned : (q : Progress) (k : Task) → acted s (get_goes (Ok q) t k) ≡ got_get q s t k
   unfolding get_goes got_get acted touched seated turned
   get_planned (progress.Going r w) k = refl
   get_planned (progress.Settled w) k = refl
 
-  page_planned : (q : Progress) (k : Task) → k.hand.cell < last_word → CellKept k.hand.cell (read.Got q) → acted s (page_goes (read.Got q) t k) ≡ got_page q s t k
+  page_planned : (q : Progress) (k : Task) → k.hand.cell < last_word → CellKept k.hand.cell (Ok q) → acted s (page_goes (Ok q) t k) ≡ got_page q s t k
   unfolding page_goes page_settles got_page acted touched seated turned
   page_planned (progress.Going r w) k h e = refl
   page_planned (progress.Settled w) k h e =
       let small : w.cell < last_word = rw e h in
       rw (after_small small) (acted_if s (eqb (w.cell + 1) k.until) _ _)
 
-  copy_planned : (q : Progress) (k : Task) → acted s (copy_goes (read.Got q) t k) ≡ got_copy q s t k
+  copy_planned : (q : Progress) (k : Task) → acted s (copy_goes (Ok q) t k) ≡ got_copy q s t k
   unfolding copy_goes got_copy acted touched seated turned
   copy_planned (progress.Going r w) k = refl
   copy_planned (progress.Settled w) k = refl
@@ -123,10 +121,10 @@ module _ (s : State) (sh : Shape s) (t : ℕ) where
       (λ e. rw (e, le-ltb (free_block s) s.sizes.b (leb-true s.sizes.b (free_block s) e)) (full k))
       (λ e. rw (e, lt-ltb (free_block s) s.sizes.b (leb-false s.sizes.b (free_block s) e)) (took k))
     where
-      full : (k : Task) → acted s (takes found.None (sight_of s) t k g) ≡ no_room s t k
+      full : (k : Task) → acted s (takes (Ok None) (sight_of s) t k g) ≡ no_room s t k
       full k = unfold takes gives_up sight_of no_room acted touched seated turned in refl
 
-      took : (k : Task) → acted s (takes (found.At (free_block s)) (sight_of s) t k g) ≡ (with_task (with_block s (free_block s) (with_version (block_at s (free_block s)) 0)) t (aimed (moved k g (hand_of 0)) (free_block s)), reply.Quiet)
+      took : (k : Task) → acted s (takes (Ok (Some (free_block s))) (sight_of s) t k g) ≡ (with_task (with_block s (free_block s) (with_version (block_at s (free_block s)) 0)) t (aimed (moved k g (hand_of 0)) (free_block s)), reply.Quiet)
       took k = unfold takes acted touched seated turned in refl
 
   -- a touch changes no slot
@@ -177,16 +175,16 @@ module _ (s : State) (sh : Shape s) (t : ℕ) where
   planned_at stage.Idle k o p n h = unfold step_at in acted-refused s 6
   planned_at stage.TakeNew k o p n h = unfold step_at in take_planned stage.FillNew k
   planned_at stage.FillNew k o p n h = fill_planned k h (p refl)
-  planned_at (stage.Getting r) k o p n h = unfold step_at in (ap (λ (x : Read). acted s (get_goes x t k)) (read_is r k o) ∙ get_planned _ k)
+  planned_at (stage.Getting r) k o p n h = unfold step_at in (ap (λ (x : Result Progress Damaged). acted s (get_goes x t k)) (read_is r k o) ∙ get_planned _ k)
   planned_at stage.Exchange k o p n h = unfold step_at in exchange_planned k
   planned_at stage.Read k o p n h = unfold step_at reads_old sight_of acted touched seated turned in refl
   planned_at stage.Append k o p n h = unfold step_at appends_entry acted touched seated turned in refl
   planned_at stage.Write k o p n h = write_planned k n (p refl)
   planned_at stage.TakeCopy k o p n h = unfold step_at in take_planned (stage.Copying reading.Guess) k
-  planned_at (stage.Copying r) k o p n h = unfold step_at in (ap (λ (x : Read). acted s (copy_goes x t k)) (read_is r k o) ∙ copy_planned _ k)
+  planned_at (stage.Copying r) k o p n h = unfold step_at in (ap (λ (x : Result Progress Damaged). acted s (copy_goes x t k)) (read_is r k o) ∙ copy_planned _ k)
   planned_at stage.FillCopy k o p n h = copied_planned k h
   planned_at stage.Put k o p n h = put_planned k (p refl)
-  planned_at (stage.Paging r) k o p n h = unfold step_at in (ap (λ (x : Read). acted s (page_goes x t k)) (read_is r k o) ∙ page_planned _ k h (subst (CellKept k.hand.cell) (read_is r k o) (cell-kept s r k)))
+  planned_at (stage.Paging r) k o p n h = unfold step_at in (ap (λ (x : Result Progress Damaged). acted s (page_goes x t k)) (read_is r k o) ∙ page_planned _ k h (subst (CellKept k.hand.cell) (read_is r k o) (cell-kept s r k)))
 
   pub planned_step : Steady s (task_at s t) → acted s (plan_step (sight_of s) t) ≡ step s t
   unfolding plan_step plan_row step sight_of

@@ -1,17 +1,16 @@
 -- What the searches of rows find on the machine's state: the rule book's any and lowest.
 -- Rests on acts' definitions.
 use Prim.Native.Nat.{◌+◌, ◌<◌, ◌≤◌, suc, zero, ℕ}
-use Rattle.std.specs.Prelude.{Bool, false, not, true, ◌≡◌, ltb, get_or, length, if◌then◌else◌}
+use Rattle.std.specs.Prelude.{Bool, false, not, true, ◌≡◌, ltb, get_or, length, if◌then◌else◌, Err, None, Ok, Some}
 use Rattle.std.proofs.lemmas.Bool.{false≢true}
 use Rattle.std.proofs.Common.{true≢false, ◌∙◌, ap₂, sym, arith, le-ltb, lt-ltb, ltb-false, ltb-true}
 use mathlib.Core.List.{List, [], ◌∷◌}
 use Rattle.std.proofs.Math.Path.{ap, refl}
-use Rattle.acts.specs.declared.Found.{Found}
+use Rattle.acts.specs.Acts.{Found}
 use Rattle.acts.specs.Plans.{first_of, found_if, or_else}
 use Rattle.acts.specs.Rows.{is_none}
 use Rattle.rulebook.specs.State.{any, lowest}
 use Rattle.rulebook.specs.Tests.{by_test, if_case}
-use Rattle.acts.specs.declared.Found.TheVariants as found
 
 -- ---- a search that finds the places of a test
 
@@ -35,7 +34,7 @@ lowest-top q zero k = omega arith
 lowest-top q (suc d) k = if_case (λ (x : ℕ). x ≤ k + suc d) (q k) (λ _. omega arith) (λ _. omega (arith, lowest-top q d (suc k)))
 
 -- the lowest place, or none
-pub first-lowest : (q : ℕ → Bool) (m : ℕ) → first_of (λ (j : ℕ). found_if (q j) j) m ≡ (if ltb (lowest q m 0) m then found.At (lowest q m 0) else found.None)
+pub first-lowest : (q : ℕ → Bool) (m : ℕ) → first_of (λ (j : ℕ). found_if (q j) j) m ≡ (if ltb (lowest q m 0) m then Ok (Some (lowest q m 0)) else Ok None)
 unfolding first_of or_else lowest
 first-lowest q zero = refl
 first-lowest q (suc m) =
@@ -51,16 +50,16 @@ first-lowest q (suc m) =
     (λ f. rw (e, low, f, le-ltb (suc m) (suc m) (omega arith))))
 
 abbrev pub is_bad : Found → Bool
-is_bad found.Bad = true
-is_bad (found.At j) = false
-is_bad found.None = false
+is_bad (Err _) = true
+is_bad (Ok (Some j)) = false
+is_bad (Ok None) = false
 
 -- a search that meets nothing bad
 pub or_good : (a b : Found) → is_bad a ≡ false → is_bad b ≡ false → is_bad (or_else a b) ≡ false
 unfolding or_else
-or_good found.Bad b h k = h
-or_good (found.At j) b h k = refl
-or_good found.None b h k = k
+or_good (Err _) b h k = h
+or_good (Ok (Some j)) b h k = refl
+or_good (Ok None) b h k = k
 
 pub first_good : (f : ℕ → Found) (m : ℕ) → ((j : ℕ) → is_bad (f j) ≡ false) → is_bad (first_of f m) ≡ false
 unfolding first_of
@@ -79,9 +78,9 @@ module _ {A : Type 0} (p : A → Bool) (d : A) where
   none_cons x l (suc m) = ap (λ (y : Found). or_else y (found_if (p (get_or l m d)) (suc m))) (none_cons x l m) ∙ assoc (found_if (p x) 0) (first_of (λ (j : ℕ). found_if (p (get_or l j d)) (suc j)) m) (found_if (p (get_or l m d)) (suc m))
     where
       assoc : (a b c : Found) → or_else (or_else a b) c ≡ or_else a (or_else b c)
-      assoc found.Bad b c = refl
-      assoc (found.At j) b c = refl
-      assoc found.None b c = refl
+      assoc (Err _) b c = refl
+      assoc (Ok (Some j)) b c = refl
+      assoc (Ok None) b c = refl
 
   -- the place that is named does not matter
   none_name : (l : List A) (m : ℕ) (f g : ℕ → ℕ) → is_none (first_of (λ (j : ℕ). found_if (p (get_or l j d)) (f j)) m) ≡ is_none (first_of (λ (j : ℕ). found_if (p (get_or l j d)) (g j)) m)
@@ -90,15 +89,15 @@ module _ {A : Type 0} (p : A → Bool) (d : A) where
   none_name l (suc m) f g = none_or (first_of (λ (j : ℕ). found_if (p (get_or l j d)) (f j)) m) (first_of (λ (j : ℕ). found_if (p (get_or l j d)) (g j)) m) (none_name l m f g)
     where
       none_or : (a b : Found) → is_none a ≡ is_none b → is_none (or_else a (found_if (p (get_or l m d)) (f m))) ≡ is_none (or_else b (found_if (p (get_or l m d)) (g m)))
-      none_or found.Bad found.Bad e = unfold or_else in refl
-      none_or found.Bad (found.At j) e = unfold or_else in refl
-      none_or found.Bad found.None e = absurd (false≢true e)
-      none_or (found.At i) found.Bad e = unfold or_else in refl
-      none_or (found.At i) (found.At j) e = unfold or_else in refl
-      none_or (found.At i) found.None e = absurd (false≢true e)
-      none_or found.None found.Bad e = absurd (true≢false e)
-      none_or found.None (found.At j) e = absurd (true≢false e)
-      none_or found.None found.None e = unfold or_else in by_test (p (get_or l m d)) (λ q. rw q) (λ q. rw q)
+      none_or (Err _) (Err _) e = unfold or_else in refl
+      none_or (Err _) (Ok (Some j)) e = unfold or_else in refl
+      none_or (Err _) (Ok None) e = absurd (false≢true e)
+      none_or (Ok (Some i)) (Err _) e = unfold or_else in refl
+      none_or (Ok (Some i)) (Ok (Some j)) e = unfold or_else in refl
+      none_or (Ok (Some i)) (Ok None) e = absurd (false≢true e)
+      none_or (Ok None) (Err _) e = absurd (true≢false e)
+      none_or (Ok None) (Ok (Some j)) e = absurd (true≢false e)
+      none_or (Ok None) (Ok None) e = unfold or_else in by_test (p (get_or l m d)) (λ q. rw q) (λ q. rw q)
 
   none_any : (l : List A) → is_none (first_of (λ (j : ℕ). found_if (p (get_or l j d)) j) (length l)) ≡ not (any p l)
   unfolding any first_of or_else

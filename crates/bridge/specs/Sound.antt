@@ -1,11 +1,11 @@
 -- When the words of a pool are a sound store: the check's rules 1 to 7. Rules 2 to 6 and the tasks' part of 7 speak of the machine's state that
 -- the words show; the rest of 7 is the layout's own. Rests on rules, block and layout; nothing is proved here.
-use Rattle.std.specs.Prelude.{◌<◌, ℕ, true, List, ◌≡◌, get_or}
+use Rattle.std.specs.Prelude.{◌<◌, ℕ, true, List, ◌≡◌, get_or, Result, Some}
 use Rattle.rulebook.specs.declared.Sizes.{Sizes}
 use Rattle.rulebook.specs.declared.Stage.{Stage}
 use Rattle.rulebook.specs.declared.Stage.TheVariants.{Append, Copying, Exchange, FillCopy, FillNew, Getting, Idle, Paging, Put, Read, TakeCopy, TakeNew, Write}
 use Rattle.block.specs.Sound.{Filling, Laid}
-use Rattle.layout.specs.Codes.{code_of}
+use Rattle.rulebook.specs.Codes.{code_of}
 use Rattle.layout.specs.Header.{header_of}
 use Rattle.layout.specs.Pool.{view_of}
 use Rattle.layout.specs.Places.{block_part, slot_part, task_part}
@@ -13,7 +13,8 @@ use Rattle.layout.specs.Rows.{task_read}
 use Rattle.rulebook.specs.State.{fills, stood, task_at}
 use Rattle.rules.specs.Paced.{Paced}
 use Rattle.rules.specs.Rules.{Rules}
-use Rattle.layout.specs.declared.Header.TheVariants as header
+use Rattle.rulebook.specs.declared.Damaged.{Damaged}
+use Rattle.rulebook.specs.declared.Progress.{Progress}
 
 -- up to which cell a task at stage g, with cell i in hand, has filled its block
 abbrev pub filled_to : Stage → ℕ → ℕ → ℕ
@@ -22,7 +23,7 @@ filled_to TakeNew n i = 0
 filled_to FillNew n i = i
 filled_to (Getting r) n i = 0
 filled_to Exchange n i = 0
-filled_to Read n i = 0
+filled_to Result Progress Damaged n i = 0
 filled_to Append n i = 0
 filled_to Write n i = 0
 filled_to TakeCopy n i = 0
@@ -33,7 +34,7 @@ filled_to (Paging r) n i = 0
 
 pub record Sound (d : Sizes) (p : List ℕ) : Type 0 where
   -- 1: refusal 1 is not due
-  pub header : header_of p ≡ header.Good d
+  pub header : header_of p ≡ Some d
   -- 7: each code of a status and of a stage is one
   pub statuses : (j : ℕ) → j < d.h → get_or (slot_part p j) 1 0 < 3
   pub codes : (t : ℕ) → t < d.t → code_of (task_read (task_part p d t)).stage ≡ get_or (task_part p d t) 0 0

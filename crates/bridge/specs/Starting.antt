@@ -1,17 +1,15 @@
 -- Every start and release on a sound pool does the machine's, and leaves the pool sound.
 -- Rests on Alike, Planned and Doable.
-use Rattle.std.specs.Prelude.{◌+◌, ◌<◌, ℕ, ◌&&◌, ◌||◌, false, not, true, List, if◌then◌else◌}
+use Rattle.std.specs.Prelude.{◌+◌, ◌<◌, ℕ, ◌&&◌, ◌||◌, false, not, true, List, if◌then◌else◌, Err, None, Ok, Option, Result, Some}
 use Rattle.std.proofs.lemmas.Bool.{false≢true}
 use Rattle.std.proofs.Common.{true≢false, ◌∙◌, sym, arith}
 use Rattle.std.proofs.Math.Path.{◌≡◌, refl, subst⁻¹}
 use Rattle.std.proofs.Math.Dec.{eqb, leb, ltb}
 use borrow.Author.Tests.{leb-false, lt-ltb}
-use Rattle.acts.specs.declared.Act.{Act}
-use Rattle.acts.specs.declared.Found.{Found}
-use Rattle.acts.specs.declared.Live.{Live}
-use Rattle.acts.specs.declared.SlotChange.{SlotChange}
-use Rattle.acts.specs.declared.TaskChange.{TaskChange}
-use Rattle.layout.specs.declared.Header.{Header}
+use Rattle.acts.specs.Acts.{Act}
+use Rattle.acts.specs.Acts.{Found}
+use Rattle.acts.specs.Acts.{SlotChange}
+use Rattle.acts.specs.Acts.{TaskChange}
 use Rattle.rulebook.specs.declared.Reply.{Reply}
 use Rattle.rulebook.specs.declared.Sizes.{Sizes}
 use Rattle.rulebook.specs.declared.Slot.{Slot}
@@ -34,11 +32,9 @@ use Rattle.bridge.specs.Doable.{Doable, Seats, Turns, bridged_act, no-append}
 use Rattle.bridge.specs.Planned.{planned_get, planned_new, planned_page, planned_release, planned_set}
 use Rattle.bridge.specs.Shown.{Shows, sight-shows, sound-shape}
 use Rattle.bridge.specs.Sound.{Sound}
-use Rattle.acts.specs.declared.Touch.TheVariants as touch
-use Rattle.acts.specs.declared.SlotChange.TheVariants as slot
-use Rattle.acts.specs.declared.TaskChange.TheVariants as task
-use Rattle.acts.specs.declared.Found.TheVariants as found
-use Rattle.acts.specs.declared.Live.TheVariants as live
+use Rattle.acts.specs.Acts as touch
+use Rattle.acts.specs.Acts as change
+use Rattle.acts.specs.declared.Refusal.{Refusal}
 
 module _ {d : Sizes} {p : List ℕ} (S : Sound d p) where
   abbrev s : State
@@ -56,18 +52,18 @@ module _ {d : Sizes} {p : List ℕ} (S : Sound d p) where
 
   pub answers_act : (r : Reply) → Doable d p (answers r)
   unfolding slot_near task_near
-  answers_act r = quiet_act slot.Same task.Same r refl refl tt tt
+  answers_act r = quiet_act change.Same change.Same r refl refl tt tt
 
   -- a task that fills no block
   pub goes_act : (t : ℕ) (k : Task) (r : Reply) → t < d.t → fills k.stage ≡ false → Doable d p (goes touch.Nothing t k r)
   unfolding slot_near task_near
-  goes_act t k r h e = quiet_act slot.Same (task.To t k) r refl (lt-ltb _ _ h) tt (λ l. absurd (true≢false (sym l ∙ e)))
+  goes_act t k r h e = quiet_act change.Same (change.To t k) r refl (lt-ltb _ _ h) tt (λ l. absurd (true≢false (sym l ∙ e)))
 
   -- and a slot that is not live
   pub ends_act : (j : ℕ) (y : Slot) (t : ℕ) (k : Task) (r : Reply) → j < d.h → t < d.t → is_live y.status ≡ false → fills k.stage ≡ false → Doable d p (ends touch.Nothing j y t k r)
   unfolding slot_near task_near
   ends_act j y t k r h q o e =
-      quiet_act (slot.To j y) (task.To t k) r (lt-ltb _ _ h) (lt-ltb _ _ q) (λ l. absurd (true≢false (sym l ∙ o))) (λ l. absurd (true≢false (sym l ∙ e)))
+      quiet_act (change.To j y) (change.To t k) r (lt-ltb _ _ h) (lt-ltb _ _ q) (λ l. absurd (true≢false (sym l ∙ o))) (λ l. absurd (true≢false (sym l ∙ e)))
 
   -- ---- starts
 
@@ -77,7 +73,7 @@ module _ {d : Sizes} {p : List ℕ} (S : Sound d p) where
       below : not (eqb (ready_in f t) 0) ≡ false → t < d.t
       below e = unfold ready_in sight_of view_of in by_test (leb d.t t) (λ q. absurd (true≢false (rw q at e))) (λ q. leb-false _ _ q)
 
-  vacant_act : (g : Found → Act) → ((j : ℕ) → j < d.h → Doable d p (g (found.At j))) → Doable d p (g found.None) → Doable d p (g (vacant_in f))
+  vacant_act : (g : Found → Act) → ((j : ℕ) → j < d.h → Doable d p (g (Ok (Some j)))) → Doable d p (g (Ok None)) → Doable d p (g (vacant_in f))
   unfolding view_of
   vacant_act g some absent = vacant_case s (sound-shape d p S) (λ (x : Found). Doable d p (g x)) some absent
 
@@ -86,19 +82,19 @@ module _ {d : Sizes} {p : List ℕ} (S : Sound d p) where
     unfolding plan_new new_on reserves_for sight_of
     new_act = start_act t _ (λ q. vacant_act (λ (x : Found). new_on x f t v) (λ j l. ends_act j _ t _ _ l q refl refl) (answers_act _))
 
-    get_on_lem : t < d.t → (x : Live) → Doable d p (get_on x f t h i)
+    get_on_lem : t < d.t → (x : Result Slot Refusal) → Doable d p (get_on x f t h i)
     unfolding get_on
-    get_on_lem q (live.Not n) = answers_act _
-    get_on_lem q (live.On x) = if_case (Doable d p) (leb f.sizes.n i) (λ _. answers_act _) (λ _. goes_act t _ _ q refl)
+    get_on_lem q (Err n) = answers_act _
+    get_on_lem q (Ok x) = if_case (Doable d p) (leb f.sizes.n i) (λ _. answers_act _) (λ _. goes_act t _ _ q refl)
 
     get_act : Doable d p (plan_get f t h i)
     unfolding plan_get
     get_act = start_act t _ (λ q. get_on_lem q (live_in f h))
 
-    page_on_lem : t < d.t → (x : Live) → Doable d p (page_on x f t h i v)
+    page_on_lem : t < d.t → (x : Result Slot Refusal) → Doable d p (page_on x f t h i v)
     unfolding page_on
-    page_on_lem q (live.Not n) = answers_act _
-    page_on_lem q (live.On x) = if_case (Doable d p) (eqb v 0 || ltb f.sizes.n (i + v)) (λ _. answers_act _) (λ _. goes_act t _ _ q refl)
+    page_on_lem q (Err n) = answers_act _
+    page_on_lem q (Ok x) = if_case (Doable d p) (eqb v 0 || ltb f.sizes.n (i + v)) (λ _. answers_act _) (λ _. goes_act t _ _ q refl)
 
     page_act : Doable d p (plan_page f t h i v)
     unfolding plan_page
@@ -108,10 +104,10 @@ module _ {d : Sizes} {p : List ℕ} (S : Sound d p) where
     unfolding set_at reserves_for sight_of
     set_at_lem q y = vacant_act (λ (x : Found). set_at x f y t h i v) (λ j l. ends_act j _ t _ _ l q refl refl) (answers_act _)
 
-    set_on_lem : t < d.t → (x : Live) → Doable d p (set_on x f t h i v)
+    set_on_lem : t < d.t → (x : Result Slot Refusal) → Doable d p (set_on x f t h i v)
     unfolding set_on
-    set_on_lem q (live.Not n) = answers_act _
-    set_on_lem q (live.On y) = if_case (Doable d p) (leb f.sizes.n i) (λ _. answers_act _) (λ _. set_at_lem q y)
+    set_on_lem q (Err n) = answers_act _
+    set_on_lem q (Ok y) = if_case (Doable d p) (leb f.sizes.n i) (λ _. answers_act _) (λ _. set_at_lem q y)
 
     set_act : Doable d p (plan_set f t h i v)
     unfolding plan_set
@@ -121,16 +117,16 @@ module _ {d : Sizes} {p : List ℕ} (S : Sound d p) where
 
   release_at_lem : (h : ℕ) → slot_of h < d.h → (x : Slot) (y : Found) → Doable d p (release_at y x h)
   unfolding release_at slot_near task_near
-  release_at_lem h q x found.Bad = answers_act _
-  release_at_lem h q x (found.At u) = answers_act _
-  release_at_lem h q x found.None = quiet_act (slot.To (slot_of h) _) task.Same _ (lt-ltb _ _ q) refl (λ l. absurd (false≢true l)) tt
+  release_at_lem h q x (Err _) = answers_act _
+  release_at_lem h q x (Ok (Some u)) = answers_act _
+  release_at_lem h q x (Ok None) = quiet_act (change.To (slot_of h) _) change.Same _ (lt-ltb _ _ q) refl (λ l. absurd (false≢true l)) tt
 
   release_act : (h : ℕ) → Doable d p (plan_release f h)
   unfolding plan_release release_on live_in live_row placed sight_of view_of
   release_act h =
-      if_case (λ (x : Live). Doable d p (release_on x f h)) (leb d.h (slot_of h)) (λ _. answers_act _) (λ e.
-      if_case (λ (x : Live). Doable d p (release_on x f h)) (is_live (slot_at s (slot_of h)).status && eqb (slot_at s (slot_of h)).serial (serial_of h))
-      (λ _. if_case (λ (x : Live). Doable d p (release_on x f h)) (ltb (slot_at s (slot_of h)).block d.b && leb (slot_at s (slot_of h)).number d.n)
+      if_case (λ (x : Result Slot Refusal). Doable d p (release_on x f h)) (leb d.h (slot_of h)) (λ _. answers_act _) (λ e.
+      if_case (λ (x : Result Slot Refusal). Doable d p (release_on x f h)) (is_live (slot_at s (slot_of h)).status && eqb (slot_at s (slot_of h)).serial (serial_of h))
+      (λ _. if_case (λ (x : Result Slot Refusal). Doable d p (release_on x f h)) (ltb (slot_at s (slot_of h)).block d.b && leb (slot_at s (slot_of h)).number d.n)
       (λ _. release_at_lem h (leb-false _ _ e) _ (user_in f (slot_of h))) (λ _. answers_act _))
       (λ _. answers_act _))
 
@@ -140,7 +136,7 @@ module _ {d : Sizes} {p : List ℕ} (S : Sound d p) where
   pub called : (x : Sight → Act) (c : Call) → x (sight p d) ≡ x (sight_of (view_of d p)) → Doable d p (x (sight_of (view_of d p))) → acted (view_of d p) (x (sight_of (view_of d p))) ≡ call c (view_of d p) → Bridged d (called_in (header_of p) p x) (call c (view_of d p))
   unfolding called_in
   called x c alike D e =
-      subst⁻¹ (λ (z : Header). Bridged d (called_in z p x) (call c s)) S.header
+      subst⁻¹ (λ (z : Option Sizes). Bridged d (called_in z p x) (call c s)) S.header
       (subst⁻¹ (λ (a : Act). Bridged d (applied_in p d a) (call c s)) alike (bridged_act S (x f) D c e))
 
   W : Shows (sight p d) s

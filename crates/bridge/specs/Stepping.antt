@@ -1,9 +1,9 @@
 -- Every step on a sound pool does the machine's, and leaves the pool sound: what each stage plans can be done.
 -- Rests on Working, Starting and PlannedStep; the rules say of each task where it reads, writes and fills.
-use Rattle.std.specs.Prelude.{◌+◌, ◌<◌, ℕ, false, List, ◌≡◌, eqb, leb, ltb}
+use Rattle.std.specs.Prelude.{◌+◌, ◌<◌, ℕ, false, List, ◌≡◌, eqb, leb, ltb, Err, Ok, Result, true}
 use Rattle.std.proofs.Common.{◌∙◌, ap, arith, eqb-true, leb-false, ltb-true}
 use Rattle.std.proofs.Math.Path.{refl, subst⁻¹}
-use Rattle.acts.specs.declared.Found.{Found}
+use Rattle.acts.specs.Acts.{Found}
 use Rattle.rulebook.specs.declared.Hand.{Hand}
 use Rattle.rulebook.specs.declared.Reading.{Reading}
 use Rattle.rulebook.specs.declared.Sizes.{Sizes}
@@ -34,15 +34,14 @@ use Rattle.bridge.specs.Sound.{Sound, filled_to}
 use Rattle.bridge.specs.Starting.{answers_act, called, ends_act, goes_act, quiet_act}
 use Rattle.bridge.specs.Touching.{append-touches, exchange-touches, write-touches}
 use Rattle.bridge.specs.Working.{fill-ends, fill_on, filled_so, filled-whole, finish_act, in_place, named-laid, near-fresh, near-t, took_act}
-use Rattle.acts.specs.declared.Read.{Read}
-use Rattle.acts.specs.declared.Read.TheVariants as read
-use Rattle.acts.specs.declared.SlotChange.TheVariants as slot
-use Rattle.acts.specs.declared.TaskChange.TheVariants as task
-use Rattle.acts.specs.declared.Touch.TheVariants as touch
+use Rattle.acts.specs.Acts as change
+use Rattle.acts.specs.Acts as touch
 use Rattle.rulebook.specs.declared.Progress.TheVariants as progress
 use Rattle.rulebook.specs.declared.Reading.TheVariants as reading
 use Rattle.rulebook.specs.declared.Stage.TheVariants as stage
 use Rattle.rulebook.specs.declared.Reply.TheVariants as reply
+use Rattle.rulebook.specs.declared.Damaged.{Damaged}
+use Rattle.rulebook.specs.declared.Progress.{Progress}
 
 module _ {d : Sizes} {p : List ℕ} (S : Sound d p) where
   abbrev s : State
@@ -108,48 +107,48 @@ module _ {d : Sizes} {p : List ℕ} (S : Sound d p) where
     exchange_act q =
         if_case (Doable d p) (eqb (block_at s k.block).version k.number)
         (λ e. let T = exchange-touches (spans d p S) k.block range.block_below k.number (eqb-true _ _ e) range.number_within in
-        in_place S t in_t slot.Same _ _ (ap names q) T.0 (T.1 (named-laid S t in_t (ap names q))) refl tt (if_case (λ (k' : Task). fills k'.stage ≡ false) (ltb k.number d.n) (λ _. refl) (λ _. refl)))
+        in_place S t in_t change.Same _ _ (ap names q) T.0 (T.1 (named-laid S t in_t (ap names q))) refl tt (if_case (λ (k' : Task). fills k'.stage ≡ false) (ltb k.number d.n) (λ _. refl) (λ _. refl)))
         (λ _. goes_act S t _ _ in_t refl)
 
     append_act : k.stage ≡ stage.Append → Doable d p (appends_entry t (ticked k))
     unfolding appends_entry ticked moved slot_near view_of
     append_act q =
         let T = append-touches (spans d p S) k.block range.block_below (named-laid S t in_t (ap names q)) (append-fits s S.rules t q).0 k.cell (record { version = k.number; old = k.hand.guess }) range.cell_below in
-        in_place S t in_t slot.Same _ _ (ap names q) T.0 T.1 refl tt refl
+        in_place S t in_t change.Same _ _ (ap names q) T.0 T.1 refl tt refl
 
     write_act : k.stage ≡ stage.Write → Doable d p (writes_new f t (ticked k))
     unfolding writes_new ticked view_of
     write_act q =
         let T = write-touches (spans d p S) k.block range.block_below k.cell k.value range.cell_below in
         let L = T.1 (named-laid S t in_t (ap names q)) in
-        finish_act S t in_t (touch.Write k.block k.cell k.value) k.block (after k.number) (λ serial r. in_place S t in_t (slot.To k.fresh _) idle r (ap names q) T.0 L (near-fresh S t in_t _) (λ _. subst⁻¹ (Laid d.n) T.0.own L) refl)
+        finish_act S t in_t (touch.Write k.block k.cell k.value) k.block (after k.number) (λ serial r. in_place S t in_t (change.To k.fresh _) idle r (ap names q) T.0 L (near-fresh S t in_t _) (λ _. subst⁻¹ (Laid d.n) T.0.own L) refl)
 
     -- ---- reading
 
-    get_goes_lem : (x : Read) → Doable d p (get_goes x t (ticked k))
+    get_goes_lem : (x : Result Progress Damaged) → Doable d p (get_goes x t (ticked k))
     unfolding get_goes moved
-    get_goes_lem read.Bad = answers_act S _
-    get_goes_lem (read.Got (progress.Going r w)) = goes_act S t _ _ in_t refl
-    get_goes_lem (read.Got (progress.Settled w)) = goes_act S t _ _ in_t refl
+    get_goes_lem (Err _) = answers_act S _
+    get_goes_lem (Ok (progress.Going r w)) = goes_act S t _ _ in_t refl
+    get_goes_lem (Ok (progress.Settled w)) = goes_act S t _ _ in_t refl
 
-    page_goes_lem : (x : Read) → Doable d p (page_goes x t (ticked k))
+    page_goes_lem : (x : Result Progress Damaged) → Doable d p (page_goes x t (ticked k))
     unfolding page_goes page_settles moved ticked
-    page_goes_lem read.Bad = answers_act S _
-    page_goes_lem (read.Got (progress.Going r w)) = goes_act S t _ _ in_t refl
-    page_goes_lem (read.Got (progress.Settled w)) = if_case (Doable d p) (eqb (after w.cell) k.until) (λ _. goes_act S t _ _ in_t refl) (λ _. goes_act S t _ _ in_t refl)
+    page_goes_lem (Err _) = answers_act S _
+    page_goes_lem (Ok (progress.Going r w)) = goes_act S t _ _ in_t refl
+    page_goes_lem (Ok (progress.Settled w)) = if_case (Doable d p) (eqb (after w.cell) k.until) (λ _. goes_act S t _ _ in_t refl) (λ _. goes_act S t _ _ in_t refl)
 
     -- a copy has filled its block up to the cell that it reads
     copy-on : (y : Reading) → k.stage ≡ stage.Copying y → (x : Stage) (w : Hand) → filled_to x d.n w.cell ≡ w.cell → w.cell ≡ k.hand.cell → Doable d p (goes touch.Nothing t (moved (ticked k) x w) reply.Quiet)
     unfolding moved ticked slot_near touched_in touched_near touch_near
     copy-on y q x w o e =
-        quiet_act S slot.Same (task.To t _) _ refl (near-t S t in_t _) tt
+        quiet_act S change.Same (change.To t _) _ refl (near-t S t in_t _) tt
         (λ _. subst⁻¹ (λ (c : ℕ). Filling c d.n (block_part p d k.target)) (o ∙ e) (filled_so S t in_t (stage.Copying y) q refl))
 
-    copy_goes_lem : (y : Reading) → k.stage ≡ stage.Copying y → (x : Read) → CellKept k.hand.cell x → Doable d p (copy_goes x t (ticked k))
+    copy_goes_lem : (y : Reading) → k.stage ≡ stage.Copying y → (x : Result Progress Damaged) → CellKept k.hand.cell x → Doable d p (copy_goes x t (ticked k))
     unfolding copy_goes
-    copy_goes_lem y q read.Bad e = answers_act S _
-    copy_goes_lem y q (read.Got (progress.Going r w)) e = copy-on y q (stage.Copying r) w refl e
-    copy_goes_lem y q (read.Got (progress.Settled w)) e = copy-on y q stage.FillCopy w refl e
+    copy_goes_lem y q (Err _) e = answers_act S _
+    copy_goes_lem y q (Ok (progress.Going r w)) e = copy-on y q (stage.Copying r) w refl e
+    copy_goes_lem y q (Ok (progress.Settled w)) e = copy-on y q stage.FillCopy w refl e
 
     -- ---- every stage
 

@@ -6,9 +6,9 @@ use Rattle.std.proofs.Common.{true≢false, ◌∙◌, ap, subst, sym}
 use mathlib.Core.List.{List}
 use Rattle.std.proofs.Math.Path.{refl, subst⁻¹, subst₂}
 use borrow.Author.Tests.{eqb-false, eqb-true, lt-ltb, ne_eqb}
-use Rattle.acts.specs.declared.SlotChange.{SlotChange}
-use Rattle.acts.specs.declared.TaskChange.{TaskChange}
-use Rattle.acts.specs.declared.Touch.{Touch}
+use Rattle.acts.specs.Acts.{SlotChange}
+use Rattle.acts.specs.Acts.{TaskChange}
+use Rattle.acts.specs.Acts.{Touch}
 use Rattle.rulebook.specs.declared.Reply.{Reply}
 use Rattle.rulebook.specs.declared.Sizes.{Sizes}
 use Rattle.rulebook.specs.declared.Slot.{Slot}
@@ -37,9 +37,8 @@ use Rattle.bridge.specs.Shown.{spans}
 use Rattle.bridge.specs.Sound.{Sound, filled_to}
 use Rattle.bridge.specs.Starting.{answers_act}
 use Rattle.bridge.specs.Touching.{Touches, fill-touches, take-touches}
-use Rattle.acts.specs.declared.SlotChange.TheVariants as slot
-use Rattle.acts.specs.declared.TaskChange.TheVariants as task
-use Rattle.acts.specs.declared.Touch.TheVariants as touch
+use Rattle.acts.specs.Acts as change
+use Rattle.acts.specs.Acts as touch
 use Rattle.rulebook.specs.declared.Status.TheVariants as status
 use Rattle.rulebook.specs.declared.Reply.TheVariants as reply
 
@@ -85,29 +84,29 @@ module _ {d : Sizes} {p : List ℕ} (S : Sound d p) where
     k = task_at s t
 
     -- the task is there, and the slot that it has reserved
-    pub near-t : (k' : Task) → task_near d (task.To t k') ≡ true
+    pub near-t : (k' : Task) → task_near d (change.To t k') ≡ true
     unfolding task_near
     near-t k' = lt-ltb _ _ in_t
 
     abbrev range : TaskRange s.sizes (task_at s t)
     range = S.paced.tasks t
 
-    pub near-fresh : (y : Slot) → slot_near d (slot.To k.fresh y) ≡ true
+    pub near-fresh : (y : Slot) → slot_near d (change.To k.fresh y) ≡ true
     unfolding slot_near view_of
     near-fresh y = lt-ltb _ _ range.fresh_below
 
     -- a set in place: the block of its handle stays laid out
-    pub in_place : {x : Touch} {z : List ℕ} (c : SlotChange) (k' : Task) (r : Reply) → names k.stage ≡ true → Touches d p x k.block z → Laid d.n z → slot_near d c ≡ true → Seats d p x c → fills k'.stage ≡ false → Doable d p (record { touch = x; slot = c; task = task.To t k'; reply = r })
+    pub in_place : {x : Touch} {z : List ℕ} (c : SlotChange) (k' : Task) (r : Reply) → names k.stage ≡ true → Touches d p x k.block z → Laid d.n z → slot_near d c ≡ true → Seats d p x c → fills k'.stage ≡ false → Doable d p (record { touch = x; slot = c; task = change.To t k'; reply = r })
     in_place c k' r n T laid i seats e =
         let l = S.rules.valid.named_live t n in
-        touch_act c (task.To t k') r T (λ _. laid) (λ u _ m o. S.rules.valid.none_on_it u k.slot m l.0 (l.1 ∙ sym o)) i (near-t k') seats (λ m. absurd (true≢false (sym m ∙ e)))
+        touch_act c (change.To t k') r T (λ _. laid) (λ u _ m o. S.rules.valid.none_on_it u k.slot m l.0 (l.1 ∙ sym o)) i (near-t k') seats (λ m. absurd (true≢false (sym m ∙ e)))
 
     -- a block that the task fills has no live handle and no other task
-    filling : {x : Touch} {z : List ℕ} (c : SlotChange) (k' : Task) (r : Reply) → fills k.stage ≡ true → Touches d p x k.target z → slot_near d c ≡ true → Seats d p x c → Turns d p x (task.To t k') → Doable d p (record { touch = x; slot = c; task = task.To t k'; reply = r })
+    filling : {x : Touch} {z : List ℕ} (c : SlotChange) (k' : Task) (r : Reply) → fills k.stage ≡ true → Touches d p x k.target z → slot_near d c ≡ true → Seats d p x c → Turns d p x (change.To t k') → Doable d p (record { touch = x; slot = c; task = change.To t k'; reply = r })
     unfolding task_named
     filling c k' r m T i seats turns =
         let v = S.rules.valid in
-        touch_act c (task.To t k') r T
+        touch_act c (change.To t k') r T
         (λ l. let j = stander-of s k.target l in absurd (v.none_on_it t j.0 m j.1 j.2))
         (λ u a l o. eqb-false u t a (v.one_filler u t l m o)) i (near-t k') seats turns
 
@@ -131,7 +130,7 @@ module _ {d : Sizes} {p : List ℕ} (S : Sound d p) where
     took_act x e h =
         let free = not_held s h in
         let T = take-touches g (free_block s) h in
-        touch_act slot.Same _ _ T.0 (λ l. let j = stander-of s (free_block s) l in absurd (no-stander s (free_block s) free j.0 j.1 j.2)) (λ u _ l o. no-filler s (free_block s) free u l o) refl (near-t _) tt
+        touch_act change.Same _ _ T.0 (λ l. let j = stander-of s (free_block s) l in absurd (no-stander s (free_block s) free j.0 j.1 j.2)) (λ u _ l o. no-filler s (free_block s) free u l o) refl (near-t _) tt
         (λ _. subst₂ (λ (c : ℕ) (w : List ℕ). Filling c d.n w) (sym e) (sym T.0.own) T.1)
 
     -- a cell of the block that it fills is written
@@ -144,9 +143,9 @@ module _ {d : Sizes} {p : List ℕ} (S : Sound d p) where
       pub fill_on : (k' : Task) (r : Reply) → k'.target ≡ k.target → (fills k'.stage ≡ true → Filling (filled_to k'.stage d.n k'.hand.cell) d.n (fill_in d.n (block_part p d k.target) i v).0) → Doable d p (goes (touch.Fill k.target i v) t k' r)
       unfolding slot_near
       fill_on k' r e F =
-          filling slot.Same k' r m touches refl tt (λ l. subst⁻¹ (Filling _ d.n) (ap (words_after d p (touch.Fill k.target i v)) e ∙ touches.own) (F l))
+          filling change.Same k' r m touches refl tt (λ l. subst⁻¹ (Filling _ d.n) (ap (words_after d p (touch.Fill k.target i v)) e ∙ touches.own) (F l))
 
       -- the block is filled
       pub fill-ends : Filling d.n d.n (fill_in d.n (block_part p d k.target) i v).0 → (serial : ℕ) (r : Reply) → Doable d p (ends (touch.Fill k.target i v) k.fresh (record { serial = serial; status = status.Live; block = k.target; number = 0 }) t idle r)
       fill-ends F serial r =
-          filling (slot.To k.fresh _) idle r m touches (near-fresh _) (λ _. subst⁻¹ (Laid d.n) touches.own (filled-laid F)) (λ l. absurd (false≢true l))
+          filling (change.To k.fresh _) idle r m touches (near-fresh _) (λ _. subst⁻¹ (Laid d.n) touches.own (filled-laid F)) (λ l. absurd (false≢true l))

@@ -1,6 +1,6 @@
 -- What doing an act leaves: the machine's state that the act leads to; and all that it does not name, as it was.
 -- Rests on View, Does and the block's laws.
-use Rattle.std.specs.Prelude.{ℕ, ◌+◌, ◌≤◌, ◌<◌, ◌≡◌, Bool, true, false, List, [], ◌∷◌, ◌++◌, length, leb, eqb}
+use Rattle.std.specs.Prelude.{ℕ, ◌+◌, ◌≤◌, ◌<◌, ◌≡◌, Bool, true, false, List, [], ◌∷◌, ◌++◌, length, leb, eqb, Option}
 use Rattle.std.proofs.Math.Path.{refl, ap}
 use Rattle.std.proofs.Common.{sym, ◌∙◌}
 use Rattle.std.proofs.lemmas.Bool.{false≢true}
@@ -19,22 +19,20 @@ use Rattle.block.specs.Reads.{version_at_lem}
 use Rattle.block.specs.Writes.{append-long, exchange_first, exchange-long, fill_done, fill-long, take_done, take_long, write_done, write-long}
 use Rattle.block.proofs.Appends.{append-done}
 use Rattle.block.proofs.Plans.{room_planned}
-use Rattle.block.specs.declared.change.Room.{Room}
-use Rattle.block.specs.declared.change.Room.TheVariants as room
 use Rattle.acts.specs.Plans.{answers}
 use Rattle.acts.specs.Acted.{touched, seated, turned, acted}
-use Rattle.acts.specs.declared.Touch.{Touch}
-use Rattle.acts.specs.declared.Touch.TheVariants as touch
-use Rattle.acts.specs.declared.SlotChange.{SlotChange}
-use Rattle.acts.specs.declared.SlotChange.TheVariants as slot
-use Rattle.acts.specs.declared.TaskChange.{TaskChange}
-use Rattle.acts.specs.declared.TaskChange.TheVariants as task
-use Rattle.acts.specs.declared.Act.{Act}
+use Rattle.acts.specs.Acts.{Touch}
+use Rattle.acts.specs.Acts as touch
+use Rattle.acts.specs.Acts.{SlotChange}
+use Rattle.acts.specs.Acts as change
+use Rattle.acts.specs.Acts.{TaskChange}
+use Rattle.acts.specs.Acts.{Act}
 use Rattle.layout.specs.Places.{block_part, Spans}
 use Rattle.layout.specs.Pool.{view_of, put_block, raised, put_done, touched_in, touched_near, seated_in, turned_in, acted_in, applied_in, touch_near, slot_near, task_near, InReach}
 use Rattle.layout.specs.Keeps.{none, only, Keeps, keeps-spans, keeps-all, keeps-both, slots-alone, tasks-alone, blocks-alone, slot-keeps, task-keeps, block-own, block-keeps, block-length, block-sized}
 use Rattle.layout.specs.Does.{done-near, touched_far, touched_near_lem}
 use Rattle.layout.specs.View.{view_block_at, view_slot, view_task, view_block}
+use Rattle.block.specs.declared.change.Spot.{Spot}
 
 -- the touched block has the words that its touch has left
 pub done-own : {d : Sizes} {p : List ℕ} → Spans d p → (k : ℕ) → k < d.b → (z : List ℕ × Bool) → length z.0 ≡ length (block_part p d k) → block_part (put_done p d k z).0 d k ≡ z.0
@@ -52,12 +50,12 @@ block_named (touch.Take k) = only k
 block_named (touch.Fill k i v) = only k
 
 unfoldable pub slot_named : SlotChange → ℕ → Bool
-slot_named slot.Same = none
-slot_named (slot.To j x) = only j
+slot_named change.Same = none
+slot_named (change.To j x) = only j
 
 unfoldable pub task_named : TaskChange → ℕ → Bool
-task_named task.Same = none
-task_named (task.To t k) = only t
+task_named change.Same = none
+task_named (change.To t k) = only t
 
 module _ {d : Sizes} {p : List ℕ} (g : Spans d p) where
   near-keeps : (x : Touch) → touch_near d x ≡ true → Keeps d p (touched_near p d x).0 none none (block_named x)
@@ -80,23 +78,23 @@ module _ {d : Sizes} {p : List ℕ} (g : Spans d p) where
 
   pub seated-keeps : (c : SlotChange) → slot_near d c ≡ true → Keeps d p (seated_in p d c) (slot_named c) none none
   unfolding seated_in slot_near slot_named
-  seated-keeps slot.Same h = keeps-all d p none none none
-  seated-keeps (slot.To j x) h = slot-keeps g j (ltb-true j d.h h) x
+  seated-keeps change.Same h = keeps-all d p none none none
+  seated-keeps (change.To j x) h = slot-keeps g j (ltb-true j d.h h) x
 
   pub turned-keeps : (c : TaskChange) → task_near d c ≡ true → Keeps d p (turned_in p d c) none (task_named c) none
   unfolding turned_in task_near task_named
-  turned-keeps task.Same h = keeps-all d p none none none
-  turned-keeps (task.To t k) h = task-keeps g t (ltb-true t d.t h) k
+  turned-keeps change.Same h = keeps-all d p none none none
+  turned-keeps (change.To t k) h = task-keeps g t (ltb-true t d.t h) k
 
   pub view_seated : (c : SlotChange) → slot_near d c ≡ true → view_of d (seated_in p d c) ≡ seated (view_of d p) c
   unfolding seated_in slot_near seated
-  view_seated slot.Same h = refl
-  view_seated (slot.To j x) h = view_slot d p g j (ltb-true j d.h h) x
+  view_seated change.Same h = refl
+  view_seated (change.To j x) h = view_slot d p g j (ltb-true j d.h h) x
 
   pub view_turned : (c : TaskChange) → task_near d c ≡ true → view_of d (turned_in p d c) ≡ turned (view_of d p) c
   unfolding turned_in task_near turned
-  view_turned task.Same h = refl
-  view_turned (task.To t k) h = view_task d p g t (ltb-true t d.t h) k
+  view_turned change.Same h = refl
+  view_turned (change.To t k) h = view_task d p g t (ltb-true t d.t h) k
 
 -- ---- a touch that was done has done the machine's
 
@@ -112,7 +110,7 @@ module _ (n : ℕ) (w : List ℕ) where
       (λ b. absurd (false≢true (rw (a, b) at h))))
       (λ a. absurd (false≢true (rw a at h)))
 
-  append_at-cell : (r : Room) (i v o : ℕ) → room_in n w i ≡ r → (append_at r n w i v o).1 ≡ true → i < n
+  append_at-cell : (r : Option Spot) (i v o : ℕ) → room_in n w i ≡ r → (append_at r n w i v o).1 ≡ true → i < n
   unfolding append_at
   append_at-cell (room.At s) i v o e h = (room_planned n w i s e).1.cell
   append_at-cell room.Full i v o e h = absurd (false≢true h)

@@ -1,7 +1,7 @@
 -- Every call as a total function of the pool's words and the numbers: the answer, and the words that it leaves.
 -- Rests on the plans and on what a plan does to the words.
-use Rattle.std.specs.Prelude.{ℕ, List}
-use Rattle.acts.specs.declared.Act.{Act}
+use Rattle.std.specs.Prelude.{ℕ, List, None, Option, Some}
+use Rattle.acts.specs.Acts.{Act}
 use Rattle.rulebook.specs.declared.Reply.{Reply}
 use Rattle.acts.specs.Looks.{sees_cell, sees_entry, sees_log, sees_report, sees_task, sees_version}
 use Rattle.acts.specs.Plans.{plan_get, plan_new, plan_page, plan_release, plan_set}
@@ -9,14 +9,13 @@ use Rattle.acts.specs.StepPlans.{plan_step}
 use Rattle.acts.specs.Sight.{Sight}
 use Rattle.layout.specs.Header.{header_of}
 use Rattle.layout.specs.Pool.{applied_in, sight}
-use Rattle.layout.specs.declared.Header.{Header}
-use Rattle.layout.specs.declared.Header.TheVariants as header
 use Rattle.rulebook.specs.declared.Reply.TheVariants as reply
+use Rattle.rulebook.specs.declared.Sizes.{Sizes}
 
 -- 1, or what the plan for what is seen does
-unfoldable pub called_in : Header → List ℕ → (Sight → Act) → List ℕ × Reply
-called_in header.Bad p f = (p, reply.Refused 1)
-called_in (header.Good d) p f = applied_in p d (f (sight p d))
+unfoldable pub called_in : Option Sizes → List ℕ → (Sight → Act) → List ℕ × Reply
+called_in None p f = (p, reply.Refused 1)
+called_in (Some d) p f = applied_in p d (f (sight p d))
 
 unfoldable pub start_new_in : List ℕ → ℕ → ℕ → List ℕ × Reply
 start_new_in p t v = called_in (header_of p) p (λ e. plan_new e t v)
@@ -38,9 +37,9 @@ release_in p h = called_in (header_of p) p (λ e. plan_release e h)
 
 -- ---- calls that only look
 
-unfoldable pub seen_in : Header → List ℕ → (Sight → Reply) → Reply
-seen_in header.Bad p f = reply.Refused 1
-seen_in (header.Good d) p f = f (sight p d)
+unfoldable pub seen_in : Option Sizes → List ℕ → (Sight → Reply) → Reply
+seen_in None p f = reply.Refused 1
+seen_in (Some d) p f = f (sight p d)
 
 unfoldable pub look_version_in : List ℕ → ℕ → Reply
 look_version_in p b = seen_in (header_of p) p (λ e. sees_version e b)

@@ -1,6 +1,6 @@
 -- The numbers that stand for a stage and a status in a row, and back.
 -- Rests on the rule book's codes of operation and stage.
-use Rattle.std.specs.Prelude.{ℕ, ◌+◌, ◌*◌, ◌/◌, ◌%◌, ◌≡◌, refl, Bool, eqb, if◌then◌else◌}
+use Rattle.std.specs.Prelude.{ℕ, ◌+◌, ◌*◌, ◌/◌, ◌%◌, ◌≡◌, refl, Bool, eqb, if◌then◌else◌, Err, Ok, Result}
 use Rattle.std.proofs.Common.{sym, ap, ◌∙◌}
 use Rattle.rulebook.specs.Answers.{operation, reading_code, stage_code}
 use Rattle.rulebook.specs.declared.Reading.{Reading}
@@ -9,8 +9,7 @@ use Rattle.rulebook.specs.declared.Stage.{Stage}
 use Rattle.rulebook.specs.declared.Stage.TheVariants as stage
 use Rattle.rulebook.specs.declared.Status.{Status}
 use Rattle.rulebook.specs.declared.Status.TheVariants as status
-use Rattle.acts.specs.declared.StageRow.{StageRow}
-use Rattle.acts.specs.declared.StageRow.TheVariants as stagerow
+use Rattle.rulebook.specs.declared.Damaged.{Damaged}
 
 unfoldable pub code_of : Stage → ℕ
 code_of g = 12 * operation g + stage_code g
@@ -44,8 +43,8 @@ unfoldable pub is_code : ℕ → Bool
 is_code c = eqb (code_of (stage_from c)) c
 
 -- the stage whose code is c, or bad
-unfoldable pub stage_coded : ℕ → StageRow
-stage_coded c = if is_code c then stagerow.At (stage_from c) else stagerow.Bad
+unfoldable pub stage_coded : ℕ → Result Stage Damaged
+stage_coded c = if is_code c then Ok (stage_from c) else Err damaged
 
 abbrev pub status_code : Status → ℕ
 status_code status.Free = 0

@@ -1,16 +1,16 @@
 -- One look for every code: for the function that finds the stage of a code, one law for each way out.
 -- Rests on Codes.
-use Rattle.std.specs.Prelude.{ℕ, ◌≡◌, eqb}
+use Rattle.std.specs.Prelude.{ℕ, ◌≡◌, eqb, Err, Result, true}
 use Rattle.std.proofs.Common.{sym, ap, ◌∙◌, eqb-true}
 use Rattle.rulebook.specs.Tests.{by_test}
 use Rattle.rulebook.specs.declared.Reading.TheVariants as reading
 use Rattle.rulebook.specs.declared.Stage.{Stage}
 use Rattle.rulebook.specs.declared.Stage.TheVariants as stage
-use Rattle.acts.specs.declared.StageRow.{StageRow}
-use Rattle.acts.specs.declared.StageRow.TheVariants as stagerow
-use Rattle.layout.specs.Codes.{code_of, is_code, stage_coded, stage_from}
+use Rattle.rulebook.specs.Codes.{code_of, is_code, stage_coded, stage_from}
+use Rattle.rulebook.specs.Codes.{damaged}
+use Rattle.rulebook.specs.declared.Damaged.{Damaged}
 
-pub coded-at : (c y : ℕ) (r : StageRow) → c ≡ y → r ≡ stage_coded y → r ≡ stage_coded c
+pub coded-at : (c y : ℕ) (r : Result Stage Damaged) → c ≡ y → r ≡ stage_coded y → r ≡ stage_coded c
 coded-at c y r e f = f ∙ sym (ap stage_coded e)
 
 module _ (c : ℕ) (a0 : c ≡ 0 → ⊥) (a13 : c ≡ 13 → ⊥) (a14 : c ≡ 14 → ⊥) (a27 : c ≡ 27 → ⊥) (a28 : c ≡ 28 → ⊥) (a29 : c ≡ 29 → ⊥) (a30 : c ≡ 30 → ⊥)
@@ -41,7 +41,7 @@ module _ (c : ℕ) (a0 : c ≡ 0 → ⊥) (a13 : c ≡ 13 → ⊥) (a14 : c ≡ 
   none (stage.Paging reading.Length) e = a53 e
   none (stage.Paging reading.Probe) e = a54 e
 
-  pub coded_none : stagerow.Bad ≡ stage_coded c
+  pub coded_none : (Err damaged) ≡ stage_coded c
   unfolding stage_coded is_code
   coded_none = by_test (eqb (code_of (stage_from c)) c) (λ q. absurd (none (stage_from c) (sym (eqb-true (code_of (stage_from c)) c q)))) (λ q. rw q)
 

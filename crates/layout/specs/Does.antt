@@ -1,19 +1,18 @@
 -- What is not done changes nothing.
 -- Rests on Pool.
-use Rattle.std.specs.Prelude.{ℕ, ◌≡◌, true, false, List, leb, eqb}
+use Rattle.std.specs.Prelude.{ℕ, ◌≡◌, true, false, List, leb, eqb, Option}
 use Rattle.std.proofs.Math.Path.{refl}
 use Rattle.std.proofs.Common.{sym, true≢false}
 use Rattle.rulebook.specs.declared.Sizes.{Sizes}
 use Rattle.rulebook.specs.Tests.{by_test}
 use Rattle.block.specs.Layout.{version_of, is_block, has_cell}
 use Rattle.block.specs.Words.{exchange_in, write_in, take_in, fill_in, room_in, append_at, append_in}
-use Rattle.block.specs.declared.change.Room.{Room}
-use Rattle.block.specs.declared.change.Room.TheVariants as room
-use Rattle.acts.specs.declared.Touch.{Touch}
-use Rattle.acts.specs.declared.Touch.TheVariants as touch
+use Rattle.acts.specs.Acts.{Touch}
+use Rattle.acts.specs.Acts as touch
 use Rattle.layout.specs.Parts.{splice-same}
 use Rattle.layout.specs.Places.{block_part}
 use Rattle.layout.specs.Pool.{put_block, raised, put_done, touch_near, touched_in, touched_near}
+use Rattle.block.specs.declared.change.Spot.{Spot}
 
 -- ---- what is not done changes nothing
 
@@ -27,7 +26,7 @@ module _ (n : ℕ) (w : List ℕ) where
       (λ b. rw (a, b)))
       (λ a. rw a)
 
-  append_at_not : (r : Room) (i v o : ℕ) → (append_at r n w i v o).1 ≡ false → (append_at r n w i v o).0 ≡ w
+  append_at_not : (r : Option Spot) (i v o : ℕ) → (append_at r n w i v o).1 ≡ false → (append_at r n w i v o).0 ≡ w
   unfolding append_at
   append_at_not (room.At s) i v o h = absurd (true≢false h)
   append_at_not room.Full i v o h = refl

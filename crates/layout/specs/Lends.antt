@@ -1,7 +1,7 @@
 -- What the functions that lend a row or a block on owe: rules for their proofs.
 -- Rests on Places and Pool.
 use Prim.Native.Nat.{ℕ, ◌+◌, ◌*◌, ◌^◌, ◌≤◌, ◌<◌}
-use Rattle.std.specs.Prelude.{◌≡◌, Bool, true, false, not, length, drop, ltb}
+use Rattle.std.specs.Prelude.{◌≡◌, Bool, true, false, not, length, drop, ltb, Err, Result}
 use Rattle.std.proofs.Math.Path.{refl, ap}
 use Rattle.std.proofs.Common.{sym, ◌∙◌, mul-le-mul, mul-le-mul_left, mul-suc, Fits}
 use mathlib.Core.List.{List, ◌++◌}
@@ -15,19 +15,16 @@ use Rattle.rulebook.specs.declared.Entry.{Entry}
 use Rattle.rulebook.specs.declared.Slot.{Slot}
 use Rattle.rulebook.specs.declared.Task.{Task}
 use Rattle.block.specs.Words.{version_in, cell_in, length_in, entry_in, exchange_in, append_in, write_in, take_in, fill_in}
-use Rattle.block.specs.declared.Exchanged.{Exchanged}
-use Rattle.block.specs.declared.Looked.{Looked}
-use Rattle.block.specs.declared.Looked.TheVariants as looked
-use Rattle.block.specs.declared.Probed.{Probed}
-use Rattle.block.specs.declared.Probed.TheVariants as probed
-use Rattle.acts.specs.declared.Touch.{Touch}
-use Rattle.acts.specs.declared.Touch.TheVariants as touch
+use Rattle.acts.specs.Acts.{Touch}
+use Rattle.acts.specs.Acts as touch
 use Rattle.layout.specs.Parts.{part, splice}
 use Rattle.layout.specs.Rows.{slot_words, task_words, task_fields}
 use Rattle.layout.specs.Places.{slot_start, task_start, block_start, task_part, block_part, Spans, Small, Place}
 use Rattle.layout.specs.Pool.{put_slot, put_task, put_block, raised, put_done, touch_near, touched_in, touched_near, version_seen, cell_seen, length_seen, entry_seen}
 use Rattle.layout.specs.Sizing.{room-all}
 use Rattle.layout.specs.Does.{touched_near_lem}
+use Rattle.rulebook.specs.Codes.{damaged}
+use Rattle.rulebook.specs.declared.Damaged.{Damaged}
 
 -- row j of so many rows ends within what they take
 pub row_ends : (width j count : ℕ) → j < count → width * j + width ≤ width * count
@@ -125,11 +122,11 @@ module _ (d : Sizes) (p : List ℕ) (k s e : ℕ) (q : Place d k s e) where
     there : (x : Touch) → touch_near d x ≡ ltb k d.b → touched_near p d x ≡ touched_in p d x
     there x n = sym (touched_near_lem p d x (n ∙ lt-ltb k d.b h))
 
-    pub exchange-put : (l : ℕ) (x : Exchanged) (r : Bool) → (w, x) ≡ exchange_in d.n (part p s e) l → r ≡ raised x
+    pub exchange-put : (l : ℕ) (x : Result Bool Damaged) (r : Bool) → (w, x) ≡ exchange_in d.n (part p s e) l → r ≡ raised x
         → (splice p s e w, r) ≡ touched_in p d (touch.Exchange k l)
     unfolding touched_near touch_near
     exchange-put l x r f i =
-        put_as w r _ ((λ j. (w, i j)) ∙ ap (λ (y : List ℕ × Exchanged). (y.0, raised y.1)) (f ∙ ap (λ (b : List ℕ). exchange_in d.n b l) block-got)) ∙ there (touch.Exchange k l) refl
+        put_as w r _ ((λ j. (w, i j)) ∙ ap (λ (y : List ℕ × Result Bool Damaged). (y.0, raised y.1)) (f ∙ ap (λ (b : List ℕ). exchange_in d.n b l) block-got)) ∙ there (touch.Exchange k l) refl
 
     module _ (r : Bool) where
       pub append-put : (i : ℕ) (x : Entry) → (w, r) ≡ append_in d.n (part p s e) i x.version x.old
@@ -163,19 +160,19 @@ module _ (d : Sizes) (p : List ℕ) (k : ℕ) where
       away : ltb k d.b ≡ false
       away = sym e ∙ not-true x q
 
-      pub version_far : looked.Bad ≡ version_seen p d k
+      pub version_far : (Err damaged) ≡ version_seen p d k
       unfolding version_seen
       version_far = rw away
 
-      pub cell_far : (i : ℕ) → looked.Bad ≡ cell_seen p d k i
+      pub cell_far : (i : ℕ) → Err damaged ≡ cell_seen p d k i
       unfolding cell_seen
       cell_far i = rw away
 
-      pub length_far : (i : ℕ) → looked.Bad ≡ length_seen p d k i
+      pub length_far : (i : ℕ) → Err damaged ≡ length_seen p d k i
       unfolding length_seen
       length_far i = rw away
 
-      pub entry_far : (i j : ℕ) → probed.Bad ≡ entry_seen p d k i j
+      pub entry_far : (i j : ℕ) → Err damaged ≡ entry_seen p d k i j
       unfolding entry_seen
       entry_far i j = rw away
 
@@ -200,19 +197,19 @@ module _ (d : Sizes) (p : List ℕ) (k : ℕ) where
       fill_far i v = rw away
 
   module _ (s e : ℕ) (q : Place d k s e) (h : k < d.b) where
-    pub version-near : (r : Looked) → r ≡ version_in d.n (part p s e) → r ≡ version_seen p d k
+    pub version-near : (r : Result ℕ Damaged) → r ≡ version_in d.n (part p s e) → r ≡ version_seen p d k
     unfolding version_seen
     version-near r f = f ∙ rw (block-got d p k s e q, lt-ltb k d.b h)
 
-    pub cell-near : (i : ℕ) (r : Looked) → r ≡ cell_in d.n (part p s e) i → r ≡ cell_seen p d k i
+    pub cell-near : (i : ℕ) (r : Result ℕ Damaged) → r ≡ cell_in d.n (part p s e) i → r ≡ cell_seen p d k i
     unfolding cell_seen
     cell-near i r f = f ∙ rw (block-got d p k s e q, lt-ltb k d.b h)
 
-    pub length-near : (i : ℕ) (r : Looked) → r ≡ length_in d.n (part p s e) i → r ≡ length_seen p d k i
+    pub length-near : (i : ℕ) (r : Result ℕ Damaged) → r ≡ length_in d.n (part p s e) i → r ≡ length_seen p d k i
     unfolding length_seen
     length-near i r f = f ∙ rw (block-got d p k s e q, lt-ltb k d.b h)
 
-    pub entry-near : (i j : ℕ) (r : Probed) → r ≡ entry_in d.n (part p s e) i j → r ≡ entry_seen p d k i j
+    pub entry-near : (i j : ℕ) (r : Result Entry Damaged) → r ≡ entry_in d.n (part p s e) i j → r ≡ entry_seen p d k i j
     unfolding entry_seen
     entry-near i j r f = f ∙ rw (block-got d p k s e q, lt-ltb k d.b h)
 

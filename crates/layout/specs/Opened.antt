@@ -1,6 +1,6 @@
 -- What an accepted open leaves: a header that describes the pool, the machine's opened state, and every word after the control area.
 -- Rests on Sizing, Ranges and Seen.
-use Rattle.std.specs.Prelude.{ℕ, zero, suc, ◌+◌, ◌-◌, ◌≤◌, ◌<◌, ◌≡◌, refl, true, false, List, ◌∷◌, ◌++◌, length, ltb}
+use Rattle.std.specs.Prelude.{ℕ, zero, suc, ◌+◌, ◌-◌, ◌≤◌, ◌<◌, ◌≡◌, refl, true, false, List, ◌∷◌, ◌++◌, length, ltb, Some}
 use Rattle.std.proofs.Math.Path.{sym, ap}
 use Rattle.std.proofs.Common.{◌∙◌, ltb-true, ltb-false}
 use native.Mathlib.Omega.{arith}
@@ -15,7 +15,6 @@ use Rattle.rulebook.specs.Lists.{list_to-same, replicate_get}
 use Rattle.rulebook.specs.declared.Sizes.{Sizes}
 use Rattle.rulebook.specs.declared.Reply.TheVariants as reply
 use Rattle.block.specs.Sound.{block_of}
-use Rattle.layout.specs.declared.Header.TheVariants as header
 use Rattle.layout.specs.Parts.{part, splice, Fitting, length_part, get_or-part, splice-length, splice-after, splice-part, part-after}
 use Rattle.layout.specs.Rows.{slot_read, task_read}
 use Rattle.layout.specs.Places.{slot_part, task_part, block_part}
@@ -90,7 +89,7 @@ module _ (p : List ℕ) (n h t : ℕ) (o : opens n h t (length p) ≡ true) wher
       (λ q. (let y = ltb-true i (e - s) q in get_or-part after s e i y ∙ zero_word (s + i) (omega arith) (omega arith)))
       (λ q. (let y = ltb-false i (e - s) q in get_or-eq_default (part after s e) 0 (omega arith)))
 
-  after-header : header_of after ≡ header.Good d
+  after-header : header_of after ≡ Some d
   unfolding headed
   after-header =
       let l = after-long in
@@ -145,7 +144,7 @@ module _ (p : List ℕ) (n h t : ℕ) (o : opens n h t (length p) ≡ true) wher
   pub open-length : length (open_in p n h t).0 ≡ length p
   open-length = rw open_is after-long
 
-  pub open-header : header_of (open_in p n h t).0 ≡ header.Good d
+  pub open-header : header_of (open_in p n h t).0 ≡ Some d
   open-header = rw open_is after-header
 
   pub open_view : view_of d (open_in p n h t).0 ≡ opened n h t (length p) (lie_of d p)

@@ -1,6 +1,6 @@
 -- What the ways out of opening owe: rules for the proofs of the functions.
 -- Rests on Sizing and Pool.
-use Rattle.std.specs.Prelude.{ℕ, zero, suc, ◌+◌, ◌-◌, ◌≤◌, ◌<◌, ◌≡◌, refl, length, get_or, set, drop}
+use Rattle.std.specs.Prelude.{ℕ, zero, suc, ◌+◌, ◌-◌, ◌≤◌, ◌<◌, ◌≡◌, refl, length, get_or, set, drop, None, Option, Some}
 use Rattle.std.proofs.Common.{add-one, subst, ◌∙◌, length-set, drop-cons}
 use native.Mathlib.Omega.{arith}
 use Rattle.std.proofs.Math.Path.{sym, ap, ap₂}
@@ -11,8 +11,6 @@ use Rattle.std.proofs.Math.Seq.{append_snoc, drop-length}
 use Rattle.rulebook.specs.declared.Sizes.{Sizes}
 use Rattle.rulebook.specs.declared.Reply.TheVariants as reply
 use Rattle.rulebook.specs.Sizes.{most_handles, most_tasks, header_words, control_words}
-use Rattle.layout.specs.declared.Header.{Header}
-use Rattle.layout.specs.declared.Header.TheVariants as header
 use Rattle.layout.specs.Header.{header_fields, headed, sizes_in}
 use Rattle.layout.specs.Sizing.{Openable, opens_says, sizes-good}
 use Rattle.layout.specs.Parts.{part, splice, length_part}
@@ -77,12 +75,12 @@ control_written part cleared headd n h t words e f =
 pub cleared_long : (part cleared : List ℕ) → cleared ≡ replicate (length part) 0 → header_words ≤ length part → header_words ≤ length cleared
 cleared_long part cleared e h = let l : length cleared ≡ length part = ap length e ∙ length-replicate {A = ℕ} (length part) 0 in omega arith
 
-module _ (p : List ℕ) (n h t : ℕ) (r : Header) (e : r ≡ sizes_in n h t (length p)) where
-  pub open-refused : r ≡ header.Bad → (p, reply.Refused 3) ≡ open_in p n h t
+module _ (p : List ℕ) (n h t : ℕ) (r : Option Sizes) (e : r ≡ sizes_in n h t (length p)) where
+  pub open-refused : r ≡ None → (p, reply.Refused 3) ≡ open_in p n h t
   unfolding open_in open_under
-  open-refused q = sym (ap (λ (x : Header). open_under x p n h t) (sym e ∙ q))
+  open-refused q = sym (ap (λ (x : Option Sizes). open_under x p n h t) (sym e ∙ q))
 
-  module _ (d : Sizes) (q : r ≡ header.Good d) where
+  module _ (d : Sizes) (q : r ≡ Some d) where
     may : Openable n h t (length p)
     may = opens_says n h t (length p) (sizes-good n h t (length p) d (sym e ∙ q)).0
 
@@ -111,6 +109,6 @@ module _ (p : List ℕ) (n h t : ℕ) (r : Header) (e : r ≡ sizes_in n h t (le
       unfolding open_in open_under control_of
       open_done w g =
           ap₂ (λ (x : ℕ) (y : List ℕ). (splice p 0 x y, reply.Opened d.b)) f (g ∙ ap (λ (x : ℕ). headed n h t (length p) ++ replicate (x - header_fields) 0) part-long)
-          ∙ sym (ap (λ (x : Header). open_under x p n h t) (sym e ∙ q))
+          ∙ sym (ap (λ (x : Option Sizes). open_under x p n h t) (sym e ∙ q))
 
 pub ruleset openings = (control_written, cleared_long, open-refused, open-handles, open-tasks, open-few, open-ends, open-head, open_done)

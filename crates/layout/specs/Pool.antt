@@ -1,6 +1,6 @@
 -- What the words of a pool show, and what each function does to them, for every content.
--- Rests on Rows, Places, Header, and on the block's definitions.
-use Rattle.std.specs.Prelude.{ℕ, ◌-◌, ◌≡◌, Bool, true, false, List, ◌++◌, length, drop, replicate, ltb, if◌then◌else◌}
+-- Rests on Rows, Places, Option Sizes, and on the block's definitions.
+use Rattle.std.specs.Prelude.{ℕ, ◌-◌, ◌≡◌, Bool, true, false, List, ◌++◌, length, drop, replicate, ltb, if◌then◌else◌, Err, None, Ok, Option, Result, Some}
 use Rattle.rulebook.specs.Sizes.{header_words, handle_row, task_row, control_words, block_words}
 use Rattle.rulebook.specs.State.{State, list_to}
 use Rattle.rulebook.specs.Starts.{Lie}
@@ -12,29 +12,20 @@ use Rattle.rulebook.specs.declared.Reply.TheVariants as reply
 use Rattle.block.specs.Layout.{version_of, cell_of}
 use Rattle.block.specs.Words.{version_in, cell_in, length_in, entry_in, exchange_in, append_in, write_in, take_in, fill_in}
 use Rattle.block.specs.Sound as sound
-use Rattle.block.specs.declared.Looked.{Looked}
-use Rattle.block.specs.declared.Looked.TheVariants as looked
-use Rattle.block.specs.declared.Probed.{Probed}
-use Rattle.block.specs.declared.Probed.TheVariants as probed
-use Rattle.block.specs.declared.Exchanged.{Exchanged}
-use Rattle.block.specs.declared.Exchanged.TheVariants as exchanged
 use Rattle.acts.specs.Sight.{Sight}
-use Rattle.acts.specs.declared.SlotRow.{SlotRow}
-use Rattle.acts.specs.declared.SlotRow.TheVariants as slotrow
-use Rattle.acts.specs.declared.TaskRow.{TaskRow}
-use Rattle.acts.specs.declared.Touch.{Touch}
-use Rattle.acts.specs.declared.Touch.TheVariants as touch
-use Rattle.acts.specs.declared.SlotChange.{SlotChange}
-use Rattle.acts.specs.declared.SlotChange.TheVariants as slot
-use Rattle.acts.specs.declared.TaskChange.{TaskChange}
-use Rattle.acts.specs.declared.TaskChange.TheVariants as task
-use Rattle.acts.specs.declared.Act.{Act}
-use Rattle.layout.specs.declared.Header.{Header}
-use Rattle.layout.specs.declared.Header.TheVariants as header
+use Rattle.acts.specs.Acts.{Touch}
+use Rattle.acts.specs.Acts as touch
+use Rattle.acts.specs.Acts.{SlotChange}
+use Rattle.acts.specs.Acts as change
+use Rattle.acts.specs.Acts.{TaskChange}
+use Rattle.acts.specs.Acts.{Act}
 use Rattle.layout.specs.Parts.{splice, put_row}
 use Rattle.layout.specs.Rows.{slot_words, slot_read, slot_row_of, slot_seen_of, task_fields, task_words, task_read, task_row_of, task_seen_of}
 use Rattle.layout.specs.Places.{task_base, block_base, slot_part, task_part, block_part}
 use Rattle.layout.specs.Header.{header_fields, headed, sizes_in}
+use Rattle.rulebook.specs.Codes.{damaged}
+use Rattle.rulebook.specs.declared.Damaged.{Damaged}
+use Rattle.rulebook.specs.declared.Entry.{Entry}
 
 -- ---- the state that a pool shows
 
@@ -50,33 +41,33 @@ view_of d p =
 -- ---- what a call can see of it
 
 -- a row, a block that is not there is bad
-unfoldable pub slot_seen : List ℕ → Sizes → ℕ → SlotRow
-slot_seen p d j = if ltb j d.h then slot_seen_of (slot_part p j) else slotrow.Bad
+unfoldable pub slot_seen : List ℕ → Sizes → ℕ → Result Slot Damaged
+slot_seen p d j = if ltb j d.h then slot_seen_of (slot_part p j) else Err damaged
 
-unfoldable pub task_seen : List ℕ → Sizes → ℕ → TaskRow
+unfoldable pub task_seen : List ℕ → Sizes → ℕ → Result Task Damaged
 task_seen p d t = task_seen_of (task_part p d t)
 
-unfoldable pub version_seen : List ℕ → Sizes → ℕ → Looked
-version_seen p d k = if ltb k d.b then version_in d.n (block_part p d k) else looked.Bad
+unfoldable pub version_seen : List ℕ → Sizes → ℕ → Result ℕ Damaged
+version_seen p d k = if ltb k d.b then version_in d.n (block_part p d k) else Err damaged
 
-unfoldable pub cell_seen : List ℕ → Sizes → ℕ → ℕ → Looked
-cell_seen p d k i = if ltb k d.b then cell_in d.n (block_part p d k) i else looked.Bad
+unfoldable pub cell_seen : List ℕ → Sizes → ℕ → ℕ → Result ℕ Damaged
+cell_seen p d k i = if ltb k d.b then cell_in d.n (block_part p d k) i else Err damaged
 
-unfoldable pub length_seen : List ℕ → Sizes → ℕ → ℕ → Looked
-length_seen p d k i = if ltb k d.b then length_in d.n (block_part p d k) i else looked.Bad
+unfoldable pub length_seen : List ℕ → Sizes → ℕ → ℕ → Result ℕ Damaged
+length_seen p d k i = if ltb k d.b then length_in d.n (block_part p d k) i else Err damaged
 
-unfoldable pub entry_seen : List ℕ → Sizes → ℕ → ℕ → ℕ → Probed
-entry_seen p d k i j = if ltb k d.b then entry_in d.n (block_part p d k) i j else probed.Bad
+unfoldable pub entry_seen : List ℕ → Sizes → ℕ → ℕ → ℕ → Result Entry Damaged
+entry_seen p d k i j = if ltb k d.b then entry_in d.n (block_part p d k) i j else Err damaged
 
 unfoldable pub sight : List ℕ → Sizes → Sight
 sight p d =
     record { sizes = d; slot = slot_seen p d; task = task_seen p d; version = version_seen p d; cell = cell_seen p d; log = length_seen p d; entry = entry_seen p d }
 
 -- as the check reads a row: each number in its range
-unfoldable pub slot_in : List ℕ → Sizes → ℕ → SlotRow
+unfoldable pub slot_in : List ℕ → Sizes → ℕ → Result Slot Damaged
 slot_in p d j = slot_row_of d (slot_part p j)
 
-unfoldable pub task_in : List ℕ → Sizes → ℕ → TaskRow
+unfoldable pub task_in : List ℕ → Sizes → ℕ → Result Task Damaged
 task_in p d t = task_row_of d (task_part p d t)
 
 -- ---- writing
@@ -92,10 +83,10 @@ put_block p d k w = put_row p (block_base d) (block_words d.n) k w
 
 -- ---- doing an act
 
-abbrev pub raised : Exchanged → Bool
-raised exchanged.Raised = true
-raised exchanged.Same = false
-raised exchanged.Bad = false
+abbrev pub raised : Result Bool Damaged → Bool
+raised (Ok true) = true
+raised (Ok false) = false
+raised (Err _) = false
 
 -- block k has become w, and whether that is what was to be done
 unfoldable pub put_done : List ℕ → Sizes → ℕ → List ℕ × Bool → List ℕ × Bool
@@ -125,12 +116,12 @@ unfoldable pub touched_in : List ℕ → Sizes → Touch → List ℕ × Bool
 touched_in p d x = if touch_near d x then touched_near p d x else (p, false)
 
 unfoldable pub seated_in : List ℕ → Sizes → SlotChange → List ℕ
-seated_in p d slot.Same = p
-seated_in p d (slot.To j x) = put_slot p j x
+seated_in p d change.Same = p
+seated_in p d (change.To j x) = put_slot p j x
 
 unfoldable pub turned_in : List ℕ → Sizes → TaskChange → List ℕ
-turned_in p d task.Same = p
-turned_in p d (task.To t k) = put_task p d t k
+turned_in p d change.Same = p
+turned_in p d (change.To t k) = put_task p d t k
 
 -- after the touch, which has left q: done, or refused
 unfoldable pub acted_in : Bool → List ℕ → List ℕ → Sizes → Act → List ℕ × Reply
@@ -142,12 +133,12 @@ applied_in p d a = acted_in (touched_in p d a.touch).1 (touched_in p d a.touch).
 
 -- what an act names is there: the slot, the task
 unfoldable pub slot_near : Sizes → SlotChange → Bool
-slot_near d slot.Same = true
-slot_near d (slot.To j x) = ltb j d.h
+slot_near d change.Same = true
+slot_near d (change.To j x) = ltb j d.h
 
 unfoldable pub task_near : Sizes → TaskChange → Bool
-task_near d task.Same = true
-task_near d (task.To t k) = ltb t d.t
+task_near d change.Same = true
+task_near d (change.To t k) = ltb t d.t
 
 pub record InReach (d : Sizes) (a : Act) : Type 0 where
   pub slot : slot_near d a.slot ≡ true
@@ -159,9 +150,9 @@ pub record InReach (d : Sizes) (a : Act) : Type 0 where
 unfoldable pub control_of : ℕ → ℕ → ℕ → ℕ → List ℕ
 control_of n h t words = headed n h t words ++ replicate (control_words h t - header_fields) 0
 
-unfoldable pub open_under : Header → List ℕ → ℕ → ℕ → ℕ → List ℕ × Reply
-open_under header.Bad p n h t = (p, reply.Refused 3)
-open_under (header.Good d) p n h t = (splice p 0 (control_words h t) (control_of n h t (length p)), reply.Opened d.b)
+unfoldable pub open_under : Option Sizes → List ℕ → ℕ → ℕ → ℕ → List ℕ × Reply
+open_under None p n h t = (p, reply.Refused 3)
+open_under (Some d) p n h t = (splice p 0 (control_words h t) (control_of n h t (length p)), reply.Opened d.b)
 
 unfoldable pub open_in : List ℕ → ℕ → ℕ → ℕ → List ℕ × Reply
 open_in p n h t = open_under (sizes_in n h t (length p)) p n h t

@@ -1,6 +1,6 @@
 -- What is written is what is read, and a row that the check has read lies in its ranges.
 -- Rests on Codes and Rows.
-use Rattle.std.specs.Prelude.{ℕ, refl, Bool, true, false, not, ◌&&◌, List, ◌++◌, get_or, ltb, leb, eqb}
+use Rattle.std.specs.Prelude.{ℕ, refl, Bool, true, false, not, ◌&&◌, List, ◌++◌, get_or, ltb, leb, eqb, Err, Ok}
 use Rattle.std.proofs.Math.Path.{◌≡◌, ap}
 use Rattle.std.proofs.Common.{sym, ◌∙◌, arith}
 use borrow.Author.Tests.{ltb-true, leb-true}
@@ -9,10 +9,9 @@ use Rattle.rulebook.specs.State.{freed, idle}
 use Rattle.rulebook.specs.declared.Sizes.{Sizes}
 use Rattle.rulebook.specs.declared.Slot.{Slot}
 use Rattle.rulebook.specs.declared.Task.{Task}
-use Rattle.acts.specs.declared.SlotRow.TheVariants as slotrow
-use Rattle.acts.specs.declared.TaskRow.TheVariants as taskrow
-use Rattle.layout.specs.Codes.{stage_of, stage_from, is_code, status_from, stage_from_lem, status_from_lem}
+use Rattle.rulebook.specs.Codes.{stage_of, stage_from, is_code, status_from, stage_from_lem, status_from_lem}
 use Rattle.layout.specs.Rows.{slot_words, slot_read, slot_fits, slot_row_of, bit_of, task_words, task_read, stands_in, works_in, task_fits, task_row_of, Ranged}
+use Rattle.rulebook.specs.Codes.{damaged}
 
 -- ---- what is written is what is read
 
@@ -52,15 +51,15 @@ task_read_lem k l =
 -- ---- a row that was read
 
 module _ (d : Sizes) (x : Slot) where
-  pub slot_row : (w : List ℕ) → slot_row_of d w ≡ slotrow.Row x → (slot_read w ≡ x) × (slot_fits d x ≡ true)
+  pub slot_row : (w : List ℕ) → slot_row_of d w ≡ Ok x → (slot_read w ≡ x) × (slot_fits d x ≡ true)
   unfolding slot_row_of
   slot_row w e =
       by_test (ltb (get_or w 1 0) 3 && slot_fits d (slot_read w))
       (λ o.
-      let q : slotrow.Row (slot_read w) ≡ slotrow.Row x = rw o at e in
+      let q : Ok (slot_read w) ≡ Ok x = rw o at e in
       let i : slot_read w ≡ x = cc in
       (i, ap (slot_fits d) (sym i) ∙ (and_both (ltb (get_or w 1 0) 3) (slot_fits d (slot_read w)) o).1))
-      (λ o. let q : slotrow.Bad ≡ slotrow.Row x = rw o at e in let z : ◌≡◌ {A = ℕ} 0 1 = cc in absurd (omega arith))
+      (λ o. let q : (Err damaged) ≡ Ok x = rw o at e in let z : ◌≡◌ {A = ℕ} 0 1 = cc in absurd (omega arith))
 
 module _ (d : Sizes) (k : Task) where
   pub task-ranged : task_fits d k ≡ true → Ranged d k
@@ -86,15 +85,15 @@ module _ (d : Sizes) (k : Task) where
         steps = ltb-true _ _ w.1;
       }
 
-  pub task_row : (w : List ℕ) → task_row_of d w ≡ taskrow.Row k → (task_read w ≡ k) × (task_fits d k ≡ true)
+  pub task_row : (w : List ℕ) → task_row_of d w ≡ Ok k → (task_read w ≡ k) × (task_fits d k ≡ true)
   unfolding task_row_of
   task_row w e =
       by_test (is_code (get_or w 0 0) && task_fits d (task_read w))
       (λ o.
-      let q : taskrow.Row (task_read w) ≡ taskrow.Row k = rw o at e in
+      let q : Ok (task_read w) ≡ Ok k = rw o at e in
       let i : task_read w ≡ k = cc in
       (i, ap (task_fits d) (sym i) ∙ (and_both (is_code (get_or w 0 0)) (task_fits d (task_read w)) o).1))
-      (λ o. let q : taskrow.Bad ≡ taskrow.Row k = rw o at e in let z : ◌≡◌ {A = ℕ} 0 1 = cc in absurd (omega arith))
+      (λ o. let q : (Err damaged) ≡ Ok k = rw o at e in let z : ◌≡◌ {A = ℕ} 0 1 = cc in absurd (omega arith))
 
 -- ---- rows of 0
 

@@ -1,18 +1,14 @@
 -- The words of a handle row and of a task row; what a call sees of them, and the ranges that the check tests.
 -- Rests on Codes.
-use Rattle.std.specs.Prelude.{ℕ, ◌≤◌, ◌<◌, Bool, true, false, not, ◌&&◌, List, [], ◌∷◌, get_or, ltb, leb, eqb, if◌then◌else◌}
+use Rattle.std.specs.Prelude.{ℕ, ◌≤◌, ◌<◌, Bool, true, false, not, ◌&&◌, List, [], ◌∷◌, get_or, ltb, leb, eqb, if◌then◌else◌, Err, Ok, Result}
 use Rattle.rulebook.specs.Sizes.{last_serial}
 use Rattle.rulebook.specs.declared.Sizes.{Sizes}
 use Rattle.rulebook.specs.declared.Stage.{Stage}
 use Rattle.rulebook.specs.declared.Slot.{Slot}
 use Rattle.rulebook.specs.declared.Task.{Task}
-use Rattle.acts.specs.declared.SlotRow.{SlotRow}
-use Rattle.acts.specs.declared.SlotRow.TheVariants as slotrow
-use Rattle.acts.specs.declared.TaskRow.{TaskRow}
-use Rattle.acts.specs.declared.TaskRow.TheVariants as taskrow
-use Rattle.acts.specs.declared.StageRow.{StageRow}
-use Rattle.acts.specs.declared.StageRow.TheVariants as stagerow
-use Rattle.layout.specs.Codes.{code_of, stage_from, is_code, status_code, status_from}
+use Rattle.rulebook.specs.Codes.{code_of, stage_from, is_code, status_code, status_from}
+use Rattle.rulebook.specs.Codes.{damaged}
+use Rattle.rulebook.specs.declared.Damaged.{Damaged}
 
 -- ---- a handle row
 
@@ -23,15 +19,15 @@ unfoldable pub slot_read : List ℕ → Slot
 slot_read w = record { serial = get_or w 0 0; status = status_from (get_or w 1 0); block = get_or w 2 0; number = get_or w 3 0 }
 
 -- as a call sees it: its code is tested, and its numbers where they are used
-unfoldable pub slot_seen_of : List ℕ → SlotRow
-slot_seen_of w = if ltb (get_or w 1 0) 3 then slotrow.Row (slot_read w) else slotrow.Bad
+unfoldable pub slot_seen_of : List ℕ → Result Slot Damaged
+slot_seen_of w = if ltb (get_or w 1 0) 3 then Ok (slot_read w) else Err damaged
 
 -- as the check reads it: each number in its range
 unfoldable pub slot_fits : Sizes → Slot → Bool
 slot_fits d x = ltb x.block d.b && (leb x.number d.n && leb x.serial last_serial)
 
-unfoldable pub slot_row_of : Sizes → List ℕ → SlotRow
-slot_row_of d w = if ltb (get_or w 1 0) 3 && slot_fits d (slot_read w) then slotrow.Row (slot_read w) else slotrow.Bad
+unfoldable pub slot_row_of : Sizes → List ℕ → Result Slot Damaged
+slot_row_of d w = if ltb (get_or w 1 0) 3 && slot_fits d (slot_read w) then Ok (slot_read w) else Err damaged
 
 -- ---- a task row
 
@@ -77,8 +73,8 @@ unfoldable pub task_read : List ℕ → Task
 task_read w = task_with (stage_from (get_or w 0 0)) w
 
 -- as a call sees it: its code is tested, and its numbers where they are used
-unfoldable pub task_seen_of : List ℕ → TaskRow
-task_seen_of w = if is_code (get_or w 0 0) then taskrow.Row (task_read w) else taskrow.Bad
+unfoldable pub task_seen_of : List ℕ → Result Task Damaged
+task_seen_of w = if is_code (get_or w 0 0) then Ok (task_read w) else Err damaged
 
 -- as the check reads it. A task's steps stay below this
 abbrev pub most_steps : ℕ
@@ -96,13 +92,13 @@ works_in d k =
 unfoldable pub task_fits : Sizes → Task → Bool
 task_fits d k = stands_in d k && works_in d k
 
-unfoldable pub task_row_of : Sizes → List ℕ → TaskRow
-task_row_of d w = if is_code (get_or w 0 0) && task_fits d (task_read w) then taskrow.Row (task_read w) else taskrow.Bad
+unfoldable pub task_row_of : Sizes → List ℕ → Result Task Damaged
+task_row_of d w = if is_code (get_or w 0 0) && task_fits d (task_read w) then Ok (task_read w) else Err damaged
 
 -- its stage
-abbrev pub stage_seen : TaskRow → StageRow
-stage_seen taskrow.Bad = stagerow.Bad
-stage_seen (taskrow.Row k) = stagerow.At k.stage
+abbrev pub stage_seen : Result Task Damaged → Result Stage Damaged
+stage_seen (Err _) = Err damaged
+stage_seen (Ok k) = Ok k.stage
 
 -- ---- what the tests of a task say
 

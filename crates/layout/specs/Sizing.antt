@@ -1,12 +1,11 @@
 -- What the sizes of a store and the header say of each other and of the pool.
--- Rests on Header and Places.
-use Rattle.std.specs.Prelude.{ℕ, ◌+◌, ◌-◌, ◌*◌, ◌/◌, ◌≤◌, ◌<◌, min, ◌≡◌, refl, true, ◌&&◌, List, length, get_or, ltb, leb, eqb}
+-- Rests on Option Sizes and Places.
+use Rattle.std.specs.Prelude.{ℕ, ◌+◌, ◌-◌, ◌*◌, ◌/◌, ◌≤◌, ◌<◌, min, ◌≡◌, refl, true, ◌&&◌, List, length, get_or, ltb, leb, eqb, None, Some, false}
 use Rattle.std.proofs.Common.{sym, ap, ◌∙◌, subst, le_trans, mul-le-mul_left, le-div_iff_mul-le, div-lt_iff_lt-mul, arith, ltb-true, ltb-false, leb-true, eqb-true, le-leb, eq-eqb}
 use Rattle.std.proofs.Math.Nat.{min-eq_left, min-eq_right, min-le_left, min-le_right, le-min, mul-div-le}
 use Rattle.rulebook.specs.Sizes.{most_cells, most_handles, most_tasks, most_blocks, most_words, header_words, control_words, block_words, room, within, opens}
 use Rattle.rulebook.specs.Tests.{by_test, and_both}
 use Rattle.rulebook.specs.declared.Sizes.{Sizes}
-use Rattle.layout.specs.declared.Header.TheVariants as header
 use Rattle.layout.specs.Places.{Spans}
 use Rattle.layout.specs.Header.{mark, form, limited, sizes_of, sizes_in, header_of}
 
@@ -98,14 +97,14 @@ opens_says n h t words e =
     let s = leb-true 1 (room n h t words) b.1 in
     record { limits = limited_says n h t a.0; few = leb-true words most_words b.0; some = s; most = room_most n h t words; fits = room_fits n h t words s }
 
-bad-good : {A : Type 0} {d : Sizes} → header.Bad ≡ header.Good d → A
+bad-good : {A : Type 0} {d : Sizes} → None ≡ Some d → A
 bad-good q = let z : ◌≡◌ {A = ℕ} 0 1 = cc in absurd (omega arith)
 
-pub sizes-good : (n h t words : ℕ) (d : Sizes) → sizes_in n h t words ≡ header.Good d → (opens n h t words ≡ true) × (sizes_of n h t words ≡ d)
+pub sizes-good : (n h t words : ℕ) (d : Sizes) → sizes_in n h t words ≡ Some d → (opens n h t words ≡ true) × (sizes_of n h t words ≡ d)
 unfolding sizes_in
 sizes-good n h t words d e =
     by_test (opens n h t words)
-    (λ o. (o, (let q : header.Good (sizes_of n h t words) ≡ header.Good d = rw o at e in cc)))
+    (λ o. (o, (let q : Some (sizes_of n h t words) ≡ Some d = rw o at e in cc)))
     (λ o. bad-good (rw o at e))
 
 -- ---- the header
@@ -122,7 +121,7 @@ pub record Described (d : Sizes) (p : List ℕ) : Type 0 where
   pub blocks : d.b ≡ room d.n d.h d.t (length p)
   pub opens : opens d.n d.h d.t (length p) ≡ true
 
-pub header_describes : (p : List ℕ) (d : Sizes) → header_of p ≡ header.Good d → Described d p
+pub header_describes : (p : List ℕ) (d : Sizes) → header_of p ≡ Some d → Described d p
 unfolding header_of
 header_describes p d e =
     by_test (leb header_words (length p) && (eqb (get_or p 0 0) mark && (eqb (get_or p 5 0) form && eqb (get_or p 4 0) (length p))))
@@ -145,11 +144,11 @@ header_describes p d e =
     }))
     (λ o. bad-good (rw o at e))
 
-pub described-header : (p : List ℕ) (d : Sizes) → Described d p → header_of p ≡ header.Good d
+pub described-header : (p : List ℕ) (d : Sizes) → Described d p → header_of p ≡ Some d
 unfolding header_of sizes_in
 described-header p d s =
     rw (le-leb header_words (length p) s.long, eq-eqb _ _ s.mark, eq-eqb _ _ s.form, eq-eqb _ _ s.words, s.cells, s.handles, s.tasks, s.opens)
-    (ap (λ (b : ℕ). header.Good (record { n = d.n; h = d.h; t = d.t; b = b })) (sym s.blocks))
+    (ap (λ (b : ℕ). Some (record { n = d.n; h = d.h; t = d.t; b = b })) (sym s.blocks))
 
 pub described-spans : (p : List ℕ) (d : Sizes) → Described d p → Spans d p
 described-spans p d s =
@@ -169,5 +168,5 @@ described-spans p d s =
       room = b;
     }
 
-pub header-spans : (p : List ℕ) (d : Sizes) → header_of p ≡ header.Good d → Spans d p
+pub header-spans : (p : List ℕ) (d : Sizes) → header_of p ≡ Some d → Spans d p
 header-spans p d e = described-spans p d (header_describes p d e)

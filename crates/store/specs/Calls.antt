@@ -1,18 +1,12 @@
 -- For each look and each call, one law for each way out.
 -- Rests on pool's calls on words.
-use Rattle.std.specs.Prelude.{◌<◌, ◌≤◌, ℕ, not, List, ◌≡◌, eqb, if◌then◌else◌}
+use Rattle.std.specs.Prelude.{◌<◌, ◌≤◌, ℕ, not, List, ◌≡◌, eqb, if◌then◌else◌, Err, None, Ok, Option, Result, Some}
 use Rattle.std.proofs.Common.{◌∙◌}
 use Rattle.std.proofs.Math.Path.{ap, ap₂, refl, sym}
 use Rattle.std.proofs.Math.Dec.{leb}
 use borrow.Author.Tests.{le-leb, lt-leb, ne_eqb}
-use Rattle.acts.specs.declared.Act.{Act}
-use Rattle.acts.specs.declared.Counted.{Counted}
-use Rattle.acts.specs.declared.Found.{Found}
-use Rattle.acts.specs.declared.Said.{Said}
-use Rattle.acts.specs.declared.TaskRow.{TaskRow}
-use Rattle.block.specs.declared.Looked.{Looked}
-use Rattle.block.specs.declared.Probed.{Probed}
-use Rattle.layout.specs.declared.Header.{Header}
+use Rattle.acts.specs.Acts.{Act}
+use Rattle.acts.specs.Acts.{Found}
 use Rattle.rulebook.specs.declared.Reply.{Reply}
 use Rattle.rulebook.specs.declared.Sizes.{Sizes}
 use Rattle.acts.specs.Looks.{count_of, lives_at, reports, sees_cell, sees_entry, sees_log, sees_report, sees_row, sees_task, sees_under, sees_version, shows, shows_entry, unseen, unseen_in}
@@ -25,8 +19,10 @@ use Rattle.layout.specs.Places.{Spans}
 use Rattle.layout.specs.Pool.{applied_in, cell_seen, entry_seen, length_seen, sight, task_seen, version_seen}
 use Rattle.layout.specs.Sizing.{header-spans}
 use Rattle.rulebook.specs.declared.Reply.TheVariants as reply
-use Rattle.layout.specs.declared.Header.TheVariants as header
-use Rattle.block.specs.declared.Looked.TheVariants as looked
+use Rattle.rulebook.specs.Codes.{damaged}
+use Rattle.rulebook.specs.declared.Damaged.{Damaged}
+use Rattle.rulebook.specs.declared.Entry.{Entry}
+use Rattle.rulebook.specs.declared.Task.{Task}
 
 -- ---- looks
 
@@ -44,16 +40,16 @@ module _ (p : List ℕ) (d : Sizes) where
         there m = unfold sight in rw (lt-leb d.b b l)
 
   module _ (b i j : ℕ) where
-    pub entry-none : (x : Looked) → x ≡ looked.Bad → reply.Refused 2 ≡ sees_under x (sight p d) b i j
+    pub entry-none : (x : Result ℕ Damaged) → x ≡ Err damaged → reply.Refused 2 ≡ sees_under x (sight p d) b i j
     unfolding sees_under
     entry-none x e = rw e
 
-    module _ (x : Looked) (m : ℕ) (e : x ≡ looked.Word m) where
+    module _ (x : Result ℕ Damaged) (m : ℕ) (e : x ≡ Ok m) where
       pub entry-over : m ≤ j → reply.Refused 12 ≡ sees_under x (sight p d) b i j
       unfolding sees_under
       entry-over l = rw (e, le-leb m j l)
 
-      pub entry-is : (r : Reply) (y : Probed) → j < m → y ≡ entry_seen p d b i j → r ≡ shows_entry y → r ≡ sees_under x (sight p d) b i j
+      pub entry-is : (r : Reply) (y : Result Entry Damaged) → j < m → y ≡ entry_seen p d b i j → r ≡ shows_entry y → r ≡ sees_under x (sight p d) b i j
       unfolding sees_under sight
       entry-is r y l q f = f ∙ rw (e, lt-leb m j l, q)
 
@@ -82,7 +78,7 @@ module _ (p : List ℕ) (d : Sizes) where
       met : (r z : Reply) → r ≡ z → r ≡ (if not (eqb (unseen_in (sight p d) b) 0) then reply.Refused (unseen_in (sight p d) b) else z)
       met r z f = f ∙ rw (← e, o)
 
-      pub version-met : (r : Reply) (v : Looked) → v ≡ version_seen p d b → r ≡ shows v → r ≡ sees_version (sight p d) b
+      pub version-met : (r : Reply) (v : Result ℕ Damaged) → v ≡ version_seen p d b → r ≡ shows v → r ≡ sees_version (sight p d) b
       unfolding sees_version sight
       version-met r v q f = met r _ (f ∙ rw q)
 
@@ -103,7 +99,7 @@ module _ (p : List ℕ) (d : Sizes) where
           unfolding sees_entry
           entry-beyond j = met _ _ (unfold sight in beyond _)
 
-        module _ (r : Reply) (v : Looked) (l : i < d.n) where
+        module _ (r : Reply) (v : Result ℕ Damaged) (l : i < d.n) where
           pub cell-met : v ≡ cell_seen p d b i → r ≡ shows v → r ≡ sees_cell (sight p d) b i
           unfolding sees_cell
           cell-met q f = met r _ (unfold sight in f ∙ rw (lt-leb d.n i l, q))
@@ -122,11 +118,11 @@ module _ (p : List ℕ) (d : Sizes) where
     unfolding sees_task sight
     task-none l = rw (le-leb d.t t l)
 
-    pub task-met : (r : Reply) (x : TaskRow) → t < d.t → x ≡ task_seen p d t → r ≡ sees_row x → r ≡ sees_task (sight p d) t
+    pub task-met : (r : Reply) (x : Result Task Damaged) → t < d.t → x ≡ task_seen p d t → r ≡ sees_row x → r ≡ sees_task (sight p d) t
     unfolding sees_task sight
     task-met r x l q f = f ∙ rw (lt-leb d.t t l, q)
 
-  pub report-is : (r : Reply) (x y : Counted) → x ≡ count_of (lives_at (sight p d)) d.h → y ≡ count_of (stander_in (sight p d)) d.b → r ≡ reports x y → r ≡ sees_report (sight p d)
+  pub report-is : (r : Reply) (x y : Result ℕ Damaged) → x ≡ count_of (lives_at (sight p d)) d.h → y ≡ count_of (stander_in (sight p d)) d.b → r ≡ reports x y → r ≡ sees_report (sight p d)
   unfolding sees_report
   report-is r x y e f g = g ∙ ap₂ reports e f ∙ sizes
     where
@@ -135,23 +131,23 @@ module _ (p : List ℕ) (d : Sizes) where
 
 -- ---- calls
 
-module _ (p : List ℕ) (h : Header) (e : h ≡ header_of p) where
-  pub spans-of : (d : Sizes) → h ≡ header.Good d → Spans d p
+module _ (p : List ℕ) (h : Option Sizes) (e : h ≡ header_of p) where
+  pub spans-of : (d : Sizes) → h ≡ Some d → Spans d p
   spans-of d g = header-spans p d (sym e ∙ g)
 
-  pub called-bad : (f : Sight → Act) (s : Said) → h ≡ header.Bad → s ≡ said_of (reply.Refused 1) → (p, s) ≡ told_in (called_in (header_of p) p f)
+  pub called-bad : (f : Sight → Act) (s : Reply) → h ≡ None → s ≡ reply.Refused 1 → (p, s) ≡ (called_in (header_of p) p f)
   unfolding called_in told_in
   called-bad f s g i = rw (← e, g, i)
 
-  pub called-good : (f : Sight → Act) (d : Sizes) (q : List ℕ) (s : Said) → h ≡ header.Good d → (q, s) ≡ told_in (applied_in p d (f (sight p d))) → (q, s) ≡ told_in (called_in (header_of p) p f)
+  pub called-good : (f : Sight → Act) (d : Sizes) (q : List ℕ) (s : Reply) → h ≡ Some d → (q, s) ≡ (applied_in p d (f (sight p d))) → (q, s) ≡ (called_in (header_of p) p f)
   unfolding called_in
   called-good f d q s g i = i ∙ rw (← e, g)
 
-  pub seen-bad : (f : Sight → Reply) → h ≡ header.Bad → reply.Refused 1 ≡ seen_in (header_of p) p f
+  pub seen-bad : (f : Sight → Reply) → h ≡ None → reply.Refused 1 ≡ seen_in (header_of p) p f
   unfolding seen_in
   seen-bad f g = rw (← e, g)
 
-  pub seen-good : (f : Sight → Reply) (d : Sizes) (r : Reply) → h ≡ header.Good d → r ≡ f (sight p d) → r ≡ seen_in (header_of p) p f
+  pub seen-good : (f : Sight → Reply) (d : Sizes) (r : Reply) → h ≡ Some d → r ≡ f (sight p d) → r ≡ seen_in (header_of p) p f
   unfolding seen_in
   seen-good f d r g i = i ∙ rw (← e, g)
 

@@ -1,24 +1,21 @@
 -- For each function of starts, one law for each way out: what its calls gave and its tests showed make what its contract says.
 -- Rests on acts' plans, on what doing an act leaves, and on Reach.
-use Rattle.std.specs.Prelude.{◌+◌, ◌-◌, ◌<◌, ◌≤◌, ℕ, Bool, ◌||◌, false, not, List, ◌≡◌, refl, ltb, get_or, if◌then◌else◌}
+use Rattle.std.specs.Prelude.{◌+◌, ◌-◌, ◌<◌, ◌≤◌, ℕ, Bool, ◌||◌, false, not, List, ◌≡◌, refl, ltb, get_or, if◌then◌else◌, Err, None, Ok, Result, Some}
 use Rattle.std.proofs.Math.Bool.{true}
 use Rattle.std.proofs.Common.{◌∙◌, subst}
 use Rattle.std.proofs.Math.Path.{ap, sym}
 use native.Mathlib.Omega.{arith}
 use Rattle.std.proofs.Math.Dec.{eqb, leb}
 use borrow.Author.Tests.{eq-eqb, eqb-true, le-leb, le-ltb, leb-false, lt-leb, lt-ltb, ne_eqb}
-use Rattle.acts.specs.declared.Act.{Act}
-use Rattle.acts.specs.declared.Found.{Found}
-use Rattle.acts.specs.declared.Live.{Live}
-use Rattle.acts.specs.declared.Said.{Said}
-use Rattle.acts.specs.declared.SlotRow.{SlotRow}
+use Rattle.acts.specs.Acts.{Act}
+use Rattle.acts.specs.Acts.{Found}
 use Rattle.rulebook.specs.declared.Sizes.{Sizes}
 use Rattle.rulebook.specs.declared.Slot.{Slot}
 use Rattle.rulebook.specs.declared.Stage.{Stage}
 use Rattle.rulebook.specs.declared.Task.{Task}
 use Rattle.acts.specs.Plans.{begun_on, get_on, goes, live_in, maker, new_on, page_on, plan_get, plan_new, plan_page, plan_set, ready_in, ready_row, refused, reserved_as, reserves_for, set_at, set_on, vacant_in}
 use Rattle.acts.specs.Said.{said_of, told_in}
-use Rattle.layout.specs.Codes.{code_of, is_code, stage_from, stage_of}
+use Rattle.rulebook.specs.Codes.{code_of, is_code, stage_from, stage_of}
 use Rattle.layout.specs.Keeps.{keeps-spans, slot-keeps}
 use Rattle.layout.specs.Places.{Spans, task_part}
 use Rattle.layout.specs.Pool.{applied_in, put_slot, put_task, sight, slot_seen, task_seen}
@@ -28,13 +25,14 @@ use Rattle.rulebook.specs.Tests.{by_test}
 use Rattle.work.specs.Asked.{FoundBelow}
 use Rattle.work.specs.Reach.{vacant-below}
 use Rattle.work.specs.Stepped.{does-goes, does-refused, does-seats}
-use Rattle.acts.specs.declared.Found.TheVariants as found
-use Rattle.acts.specs.declared.Live.TheVariants as live
-use Rattle.acts.specs.declared.SlotRow.TheVariants as slotrow
-use Rattle.acts.specs.declared.Touch.TheVariants as touch
+use Rattle.acts.specs.Acts as touch
 use Rattle.rulebook.specs.declared.Reading.TheVariants as reading
 use Rattle.rulebook.specs.declared.Reply.TheVariants as reply
 use Rattle.rulebook.specs.declared.Stage.TheVariants as stage
+use Rattle.rulebook.specs.Codes.{damaged}
+use Rattle.rulebook.specs.declared.Damaged.{Damaged}
+use Rattle.acts.specs.declared.Refusal.{Refusal}
+use Rattle.rulebook.specs.declared.Reply.{Reply}
 
 -- only the idle stage has the code 0
 busy_unless : (g : Stage) → (code_of g ≡ 0 → ⊥) → busy g ≡ true
@@ -59,15 +57,15 @@ code-busy c z o = busy_unless (stage_from c) (λ q. z (sym (eqb-true (code_of (s
 
 module _ (p : List ℕ) (d : Sizes) where
   -- what an act leaves and says
-  abbrev pub does : Act → List ℕ × Said
-  does a = told_in (applied_in p d a)
+  abbrev pub does : Act → List ℕ × Reply
+  does a = (applied_in p d a)
 
   -- nothing is written
-  pub refuses : (n : ℕ) (s : Said) (a : Act) → s ≡ said_of (reply.Refused n) → refused n ≡ a → (p, s) ≡ does a
-  refuses n s a g e = ap (λ (z : Said). (p, z)) g ∙ does-refused p d 0 n ∙ ap does e
+  pub refuses : (n : ℕ) (s : Reply) (a : Act) → s ≡ reply.Refused n → refused n ≡ a → (p, s) ≡ does a
+  refuses n s a g e = ap (λ (z : Reply). (p, z)) g ∙ does-refused p d 0 n ∙ ap does e
 
   -- the task t becomes k
-  begins : (t : ℕ) (k : Task) (q : List ℕ) (s : Said) (a : Act) → q ≡ put_task p d t k → s ≡ said_of reply.Quiet → goes touch.Nothing t k reply.Quiet ≡ a → (q, s) ≡ does a
+  begins : (t : ℕ) (k : Task) (q : List ℕ) (s : Reply) (a : Act) → q ≡ put_task p d t k → s ≡ reply.Quiet → goes touch.Nothing t k reply.Quiet ≡ a → (q, s) ≡ does a
   begins t k q s a f g e = rw (f, g) (does-goes p d t k reply.Quiet ∙ ap does e)
 
   -- ---- what is asked first
@@ -100,12 +98,12 @@ module _ (p : List ℕ) (d : Sizes) where
 
   -- ---- a slot is reserved
 
-  module _ (t j : ℕ) (k : Task) (s : Said) (y : SlotRow) (e : y ≡ slot_seen p d j) where
-    pub reserve-bad : y ≡ slotrow.Bad → s ≡ said_of (reply.Refused 2) → (p, s) ≡ does (reserves_for (slot_seen p d j) j t k)
+  module _ (t j : ℕ) (k : Task) (s : Reply) (y : Result Slot Damaged) (e : y ≡ slot_seen p d j) where
+    pub reserve-bad : y ≡ Err damaged → s ≡ reply.Refused 2 → (p, s) ≡ does (reserves_for (slot_seen p d j) j t k)
     unfolding reserves_for
     reserve-bad f g = refuses 2 s _ g (rw (← e, f))
 
-    pub reserve-is : (x z : Slot) (w q : List ℕ) → y ≡ slotrow.Row x → z ≡ reserved_as x.serial → w ≡ put_slot p j z → q ≡ put_task w d t k → s ≡ said_of reply.Quiet
+    pub reserve-is : (x z : Slot) (w q : List ℕ) → y ≡ Ok x → z ≡ reserved_as x.serial → w ≡ put_slot p j z → q ≡ put_task w d t k → s ≡ reply.Quiet
         → (q, s) ≡ does (reserves_for (slot_seen p d j) j t k)
     unfolding reserves_for
     reserve-is x z w q f i u v g = rw (v, u, i, g, ← e, f) (does-seats p d t j (reserved_as x.serial) k reply.Quiet)
@@ -114,22 +112,22 @@ module _ (p : List ℕ) (d : Sizes) where
   reserve-spans j z w sp l u = subst (Spans d) (sym u) (keeps-spans (slot-keeps sp j l z) sp)
 
   -- a slot that was found is there
-  pub vacant-there : (x : Found) (j : ℕ) → x ≡ vacant_in (sight p d) → x ≡ found.At j → j < d.h
+  pub vacant-there : (x : Found) (j : ℕ) → x ≡ vacant_in (sight p d) → x ≡ Ok (Some j) → j < d.h
   vacant-there x j e f = subst (λ (y : Found). FoundBelow y d.h) (sym e ∙ f) (vacant-below p d)
 
   -- ---- new and set: the slot that was found
 
-  module _ (t : ℕ) (s : Said) (x : Found) (e : x ≡ vacant_in (sight p d)) where
+  module _ (t : ℕ) (s : Reply) (x : Found) (e : x ≡ vacant_in (sight p d)) where
     module _ (v : ℕ) where
-      pub new-bad : x ≡ found.Bad → s ≡ said_of (reply.Refused 2) → (p, s) ≡ does (new_on (vacant_in (sight p d)) (sight p d) t v)
+      pub new-bad : x ≡ Err damaged → s ≡ reply.Refused 2 → (p, s) ≡ does (new_on (vacant_in (sight p d)) (sight p d) t v)
       unfolding new_on
       new-bad f g = refuses 2 s _ g (rw (← e, f))
 
-      pub new_none : x ≡ found.None → s ≡ said_of (reply.Refused 9) → (p, s) ≡ does (new_on (vacant_in (sight p d)) (sight p d) t v)
+      pub new_none : x ≡ Ok None → s ≡ reply.Refused 9 → (p, s) ≡ does (new_on (vacant_in (sight p d)) (sight p d) t v)
       unfolding new_on
       new_none f g = refuses 9 s _ g (rw (← e, f))
 
-      pub new-at : (j : ℕ) (k : Task) (q : List ℕ) → x ≡ found.At j → k ≡ maker v j → (q, s) ≡ does (reserves_for (slot_seen p d j) j t k)
+      pub new-at : (j : ℕ) (k : Task) (q : List ℕ) → x ≡ Ok (Some j) → k ≡ maker v j → (q, s) ≡ does (reserves_for (slot_seen p d j) j t k)
           → (q, s) ≡ does (new_on (vacant_in (sight p d)) (sight p d) t v)
       unfolding new_on
       new-at j k q f i g = g ∙ ap does (same ∙ rw (← e, f))
@@ -138,15 +136,15 @@ module _ (p : List ℕ) (d : Sizes) where
           same = unfold sight in rw i
 
     module _ (y : Slot) (h i v : ℕ) where
-      pub set-bad : x ≡ found.Bad → s ≡ said_of (reply.Refused 2) → (p, s) ≡ does (set_at (vacant_in (sight p d)) (sight p d) y t h i v)
+      pub set-bad : x ≡ Err damaged → s ≡ reply.Refused 2 → (p, s) ≡ does (set_at (vacant_in (sight p d)) (sight p d) y t h i v)
       unfolding set_at
       set-bad f g = refuses 2 s _ g (rw (← e, f))
 
-      pub set-none : x ≡ found.None → s ≡ said_of (reply.Refused 9) → (p, s) ≡ does (set_at (vacant_in (sight p d)) (sight p d) y t h i v)
+      pub set-none : x ≡ Ok None → s ≡ reply.Refused 9 → (p, s) ≡ does (set_at (vacant_in (sight p d)) (sight p d) y t h i v)
       unfolding set_at
       set-none f g = refuses 9 s _ g (rw (← e, f))
 
-      pub set_at_lem : (j : ℕ) (k : Task) (q : List ℕ) → x ≡ found.At j → k ≡ begun_on y h stage.Exchange i v 0 j → (q, s) ≡ does (reserves_for (slot_seen p d j) j t k)
+      pub set_at_lem : (j : ℕ) (k : Task) (q : List ℕ) → x ≡ Ok (Some j) → k ≡ begun_on y h stage.Exchange i v 0 j → (q, s) ≡ does (reserves_for (slot_seen p d j) j t k)
           → (q, s) ≡ does (set_at (vacant_in (sight p d)) (sight p d) y t h i v)
       unfolding set_at
       set_at_lem j k q f m g = g ∙ ap does (same ∙ rw (← e, f))
@@ -156,54 +154,54 @@ module _ (p : List ℕ) (d : Sizes) where
 
   -- ---- on a live handle
 
-  module _ (t : ℕ) (x : Slot) (h i : ℕ) (s : Said) where
-    pub get-beyond : d.n ≤ i → s ≡ said_of (reply.Refused 8) → (p, s) ≡ does (get_on (live.On x) (sight p d) t h i)
+  module _ (t : ℕ) (x : Slot) (h i : ℕ) (s : Reply) where
+    pub get-beyond : d.n ≤ i → s ≡ reply.Refused 8 → (p, s) ≡ does (get_on (Ok x) (sight p d) t h i)
     unfolding get_on
     get-beyond l g = refuses 8 s _ g (unfold sight in rw (le-leb d.n i l))
 
-    pub get-starts : (k : Task) (q : List ℕ) → i < d.n → k ≡ begun_on x h (stage.Getting reading.Guess) i 0 0 0 → q ≡ put_task p d t k → s ≡ said_of reply.Quiet
-        → (q, s) ≡ does (get_on (live.On x) (sight p d) t h i)
+    pub get-starts : (k : Task) (q : List ℕ) → i < d.n → k ≡ begun_on x h (stage.Getting reading.Guess) i 0 0 0 → q ≡ put_task p d t k → s ≡ reply.Quiet
+        → (q, s) ≡ does (get_on (Ok x) (sight p d) t h i)
     unfolding get_on
     get-starts k q l f u g = begins t k q s _ u g (unfold sight in rw (lt-leb d.n i l, f))
 
     module _ (v : ℕ) where
-      pub set_beyond : d.n ≤ i → s ≡ said_of (reply.Refused 8) → (p, s) ≡ does (set_on (live.On x) (sight p d) t h i v)
+      pub set_beyond : d.n ≤ i → s ≡ reply.Refused 8 → (p, s) ≡ does (set_on (Ok x) (sight p d) t h i v)
       unfolding set_on
       set_beyond l g = refuses 8 s _ g (unfold sight in rw (le-leb d.n i l))
 
-      pub set-starts : (q : List ℕ) → i < d.n → (q, s) ≡ does (set_at (vacant_in (sight p d)) (sight p d) x t h i v) → (q, s) ≡ does (set_on (live.On x) (sight p d) t h i v)
+      pub set-starts : (q : List ℕ) → i < d.n → (q, s) ≡ does (set_at (vacant_in (sight p d)) (sight p d) x t h i v) → (q, s) ≡ does (set_on (Ok x) (sight p d) t h i v)
       unfolding set_on
       set-starts q l g = g ∙ ap does (there (set_at (vacant_in (sight p d)) (sight p d) x t h i v))
         where
           there : (a : Act) → a ≡ (if leb (sight p d).sizes.n i then refused 8 else a)
           there a = unfold sight in rw (lt-leb d.n i l)
 
-      pub page-none : v ≡ 0 → s ≡ said_of (reply.Refused 8) → (p, s) ≡ does (page_on (live.On x) (sight p d) t h i v)
+      pub page-none : v ≡ 0 → s ≡ reply.Refused 8 → (p, s) ≡ does (page_on (Ok x) (sight p d) t h i v)
       unfolding page_on
       page-none l g = refuses 8 s _ g (rw (eq-eqb v 0 l))
 
-      page-beyond : d.n < i + v → s ≡ said_of (reply.Refused 8) → (p, s) ≡ does (page_on (live.On x) (sight p d) t h i v)
+      page-beyond : d.n < i + v → s ≡ reply.Refused 8 → (p, s) ≡ does (page_on (Ok x) (sight p d) t h i v)
       unfolding page_on sight
       page-beyond l g = refuses 8 s _ g (sym (page_if (ltb d.n (i + v)) _ (lt-ltb d.n (i + v) l)))
         where
           page_if : (b : Bool) (z : Act) → b ≡ true → (if eqb v 0 || b then refused 8 else z) ≡ refused 8
           page_if b z e = by_test (eqb v 0) (λ o. rw o) (λ o. rw (o, e))
 
-      pub page_large : d.n < v → s ≡ said_of (reply.Refused 8) → (p, s) ≡ does (page_on (live.On x) (sight p d) t h i v)
+      pub page_large : d.n < v → s ≡ reply.Refused 8 → (p, s) ≡ does (page_on (Ok x) (sight p d) t h i v)
       page_large l g = page-beyond (omega arith) g
 
-      pub page-past : v ≤ d.n → d.n - v < i → s ≡ said_of (reply.Refused 8) → (p, s) ≡ does (page_on (live.On x) (sight p d) t h i v)
+      pub page-past : v ≤ d.n → d.n - v < i → s ≡ reply.Refused 8 → (p, s) ≡ does (page_on (Ok x) (sight p d) t h i v)
       page-past m l g = page-beyond (omega arith) g
 
       pub page-starts : (k : Task) (q : List ℕ) → (v ≡ 0 → ⊥) → v ≤ d.n → i ≤ d.n - v → k ≡ begun_on x h (stage.Paging reading.Guess) i 0 (i + v) 0 → q ≡ put_task p d t k
-          → s ≡ said_of reply.Quiet → (q, s) ≡ does (page_on (live.On x) (sight p d) t h i v)
+          → s ≡ reply.Quiet → (q, s) ≡ does (page_on (Ok x) (sight p d) t h i v)
       unfolding page_on
       page-starts k q z m l f u g = let n : i + v ≤ d.n = omega arith in begins t k q s _ u g (unfold sight in rw (ne_eqb v 0 z, le-ltb d.n (i + v) n, f))
 
   -- ---- the starts
 
-  module _ (t : ℕ) (s : Said) (n : ℕ) (e : n ≡ ready_in (sight p d) t) where
-    module _ (o : n ≡ 0 → ⊥) (g : s ≡ said_of (reply.Refused n)) where
+  module _ (t : ℕ) (s : Reply) (n : ℕ) (e : n ≡ ready_in (sight p d) t) where
+    module _ (o : n ≡ 0 → ⊥) (g : s ≡ reply.Refused n) where
       unready : (z : Act) → (p, s) ≡ does (if not (eqb (ready_in (sight p d) t) 0) then refused (ready_in (sight p d) t) else z)
       unready z = refuses n s _ g (rw (← e, ne_eqb n 0 o))
 
@@ -232,32 +230,32 @@ module _ (p : List ℕ) (d : Sizes) where
       unfolding plan_new
       new_is v q g = g ∙ ap does (readied _)
 
-      module _ (x : Live) (h i : ℕ) (f : x ≡ live_in (sight p d) h) where
-        module _ (y : Slot) (q : List ℕ) (r : x ≡ live.On y) where
-          pub get-is : (q, s) ≡ does (get_on (live.On y) (sight p d) t h i) → (q, s) ≡ does (plan_get (sight p d) t h i)
+      module _ (x : Result Slot Refusal) (h i : ℕ) (f : x ≡ live_in (sight p d) h) where
+        module _ (y : Slot) (q : List ℕ) (r : x ≡ Ok y) where
+          pub get-is : (q, s) ≡ does (get_on (Ok y) (sight p d) t h i) → (q, s) ≡ does (plan_get (sight p d) t h i)
           unfolding plan_get
-          get-is g = g ∙ ap does (ap (λ (z : Live). get_on z (sight p d) t h i) (sym r ∙ f) ∙ readied _)
+          get-is g = g ∙ ap does (ap (λ (z : Result Slot Refusal). get_on z (sight p d) t h i) (sym r ∙ f) ∙ readied _)
 
-          pub set_is : (v : ℕ) → (q, s) ≡ does (set_on (live.On y) (sight p d) t h i v) → (q, s) ≡ does (plan_set (sight p d) t h i v)
+          pub set_is : (v : ℕ) → (q, s) ≡ does (set_on (Ok y) (sight p d) t h i v) → (q, s) ≡ does (plan_set (sight p d) t h i v)
           unfolding plan_set
-          set_is v g = g ∙ ap does (ap (λ (z : Live). set_on z (sight p d) t h i v) (sym r ∙ f) ∙ readied _)
+          set_is v g = g ∙ ap does (ap (λ (z : Result Slot Refusal). set_on z (sight p d) t h i v) (sym r ∙ f) ∙ readied _)
 
-          pub page-is : (v : ℕ) → (q, s) ≡ does (page_on (live.On y) (sight p d) t h i v) → (q, s) ≡ does (plan_page (sight p d) t h i v)
+          pub page-is : (v : ℕ) → (q, s) ≡ does (page_on (Ok y) (sight p d) t h i v) → (q, s) ≡ does (plan_page (sight p d) t h i v)
           unfolding plan_page
-          page-is v g = g ∙ ap does (ap (λ (z : Live). page_on z (sight p d) t h i v) (sym r ∙ f) ∙ readied _)
+          page-is v g = g ∙ ap does (ap (λ (z : Result Slot Refusal). page_on z (sight p d) t h i v) (sym r ∙ f) ∙ readied _)
 
-        module _ (m : ℕ) (r : x ≡ live.Not m) (g : s ≡ said_of (reply.Refused m)) where
+        module _ (m : ℕ) (r : x ≡ Err m) (g : s ≡ reply.Refused m) where
           pub get-dead : (p, s) ≡ does (plan_get (sight p d) t h i)
           unfolding plan_get get_on
-          get-dead = refuses m s _ g (ap (λ (z : Live). get_on z (sight p d) t h i) (sym r ∙ f) ∙ readied _)
+          get-dead = refuses m s _ g (ap (λ (z : Result Slot Refusal). get_on z (sight p d) t h i) (sym r ∙ f) ∙ readied _)
 
           pub set-dead : (v : ℕ) → (p, s) ≡ does (plan_set (sight p d) t h i v)
           unfolding plan_set set_on
-          set-dead v = refuses m s _ g (ap (λ (z : Live). set_on z (sight p d) t h i v) (sym r ∙ f) ∙ readied _)
+          set-dead v = refuses m s _ g (ap (λ (z : Result Slot Refusal). set_on z (sight p d) t h i v) (sym r ∙ f) ∙ readied _)
 
           pub page-dead : (v : ℕ) → (p, s) ≡ does (plan_page (sight p d) t h i v)
           unfolding plan_page page_on
-          page-dead v = refuses m s _ g (ap (λ (z : Live). page_on z (sight p d) t h i v) (sym r ∙ f) ∙ readied _)
+          page-dead v = refuses m s _ g (ap (λ (z : Result Slot Refusal). page_on z (sight p d) t h i v) (sym r ∙ f) ∙ readied _)
 
 pub ruleset asks = (ready-none, ready-idle, ready-busy, ready-bad)
 

@@ -1,13 +1,12 @@
 -- What the check computes: for each rule whether it holds, and the number of the first that is broken.
 -- Rests on Rules, Holds and Decide; nothing is proved here.
-use Rattle.std.specs.Prelude.{◌+◌, min, ℕ, Bool, ◌&&◌, not, List, eqb, leb, ltb, get_or, if◌then◌else◌}
-use Rattle.layout.specs.declared.Header.{Header}
+use Rattle.std.specs.Prelude.{◌+◌, min, ℕ, Bool, ◌&&◌, not, List, eqb, leb, ltb, get_or, if◌then◌else◌, None, Option, Some}
 use Rattle.rulebook.specs.declared.Sizes.{Sizes}
 use Rattle.rulebook.specs.declared.Slot.{Slot}
 use Rattle.rulebook.specs.declared.Stage.{Stage}
 use Rattle.rulebook.specs.declared.Task.{Task}
 use Rattle.bridge.specs.Sound.{filled_to}
-use Rattle.layout.specs.Codes.{code_of}
+use Rattle.rulebook.specs.Codes.{code_of}
 use Rattle.layout.specs.Header.{header_of}
 use Rattle.layout.specs.Places.{block_part, slot_part, task_part}
 use Rattle.layout.specs.Rows.{task_read}
@@ -16,7 +15,6 @@ use Rattle.theorems.specs.Terms.{all_to, entries}
 use Rattle.survey.specs.Decide.{◌implies◌, some_to}
 use Rattle.survey.specs.Holds.{all_apart, all_below, all_rise, filling_in, is_reserved, laid_in, range_holds, readable_in, slot_holds, stands_as, task_holds}
 use Rattle.survey.specs.Rules.{shown, slot, task, under}
-use Rattle.layout.specs.declared.Header.TheVariants as header
 
 -- ---- the rules of a pool of words p, whose header gives the sizes d
 
@@ -152,9 +150,9 @@ module _ (d : Sizes) (p : List ℕ) where
       if not rule2 then 2 else if not rule3 then 3 else if not rule4 then 4 else if not rule5 then 5 else if not rule6 then 6 else if not rule7 then 7 else 0
 
 -- the number of the first broken rule, or 0
-abbrev pub broken_under : Header → List ℕ → ℕ
-broken_under header.Bad p = 1
-broken_under (header.Good d) p = broken_of d p
+abbrev pub broken_under : Option Sizes → List ℕ → ℕ
+broken_under None p = 1
+broken_under (Some d) p = broken_of d p
 
 unfoldable pub broken_in : List ℕ → ℕ
 broken_in p = broken_under (header_of p) p

@@ -15,7 +15,7 @@ use Rattle.rulebook.specs.declared.Task.{Task}
 use Rattle.block.specs.Sound.{Filling, Laid}
 use Rattle.block.specs.Walk.{Decides}
 use Rattle.bridge.specs.Sound.{filled_to}
-use Rattle.layout.specs.Codes.{code_of}
+use Rattle.rulebook.specs.Codes.{code_of}
 use Rattle.layout.specs.Places.{Spans, block_part, slot_part, task_part}
 use Rattle.layout.specs.Pool.{view_of}
 use Rattle.layout.specs.Rows.{task_read}

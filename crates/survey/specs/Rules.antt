@@ -1,13 +1,13 @@
 -- Document 01, 'The check': rules 1 to 7, in its order, of the header, of the state that the words show, and of the words. A number that points
 -- outside the pool or its block breaks the first rule that has to read through it. Rests on rules, block and layout; nothing is proved here.
-use Rattle.std.specs.Prelude.{◌+◌, ◌<◌, ◌≤◌, min, ℕ, true, List, ◌≡◌, get_or, length}
+use Rattle.std.specs.Prelude.{◌+◌, ◌<◌, ◌≤◌, min, ℕ, true, List, ◌≡◌, get_or, length, None}
 use Rattle.rulebook.specs.declared.Sizes.{Sizes}
 use Rattle.rulebook.specs.declared.Slot.{Slot}
 use Rattle.rulebook.specs.declared.Task.{Task}
 use Rattle.block.specs.Layout.{arena, length_of, place_of}
 use Rattle.block.specs.Sound.{Filling, Laid}
 use Rattle.bridge.specs.Sound.{filled_to}
-use Rattle.layout.specs.Codes.{code_of}
+use Rattle.rulebook.specs.Codes.{code_of}
 use Rattle.layout.specs.Header.{header_of}
 use Rattle.layout.specs.Places.{block_part, slot_part, task_part}
 use Rattle.layout.specs.Pool.{view_of}
@@ -16,12 +16,11 @@ use Rattle.rulebook.specs.State.{Block, State, block_at, fills, log_at, names, r
 use Rattle.rules.specs.Paced.{Paced}
 use Rattle.rules.specs.Rules.{TaskRule}
 use Rattle.theorems.specs.Terms.{entries, version_at}
-use Rattle.layout.specs.declared.Header.TheVariants as header
 use Rattle.rulebook.specs.declared.Status.TheVariants as status
 
 -- 1: refusal 1 isn't due
 pub record Rule1 (p : List ℕ) : Type 0 where
-  pub described : header_of p ≡ header.Bad → ⊥
+  pub described : header_of p ≡ None → ⊥
 
 -- the logs of a block's words can be read: every entry lies in the arena
 pub record Readable (n : ℕ) (w : List ℕ) : Type 0 where

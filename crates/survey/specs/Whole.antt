@@ -1,8 +1,7 @@
 -- The words of a pool are a sound store exactly where the check's seven rules hold of them.
 -- Rests on Rules and on the bridge's Sound.
-use Rattle.std.specs.Prelude.{◌<◌, ℕ, ◌&&◌, true, List, ◌≡◌, refl, eqb}
+use Rattle.std.specs.Prelude.{◌<◌, ℕ, ◌&&◌, true, List, ◌≡◌, refl, eqb, None, Option, Some}
 use Rattle.std.proofs.Common.{◌∙◌, sym, arith, eq-eqb}
-use Rattle.layout.specs.declared.Header.{Header}
 use Rattle.rulebook.specs.declared.Sizes.{Sizes}
 use Rattle.rulebook.specs.declared.Slot.{Slot}
 use Rattle.block.specs.Chunks.{space_least}
@@ -14,7 +13,6 @@ use Rattle.layout.specs.Pool.{view_of}
 use Rattle.rulebook.specs.Lists.{any_some}
 use Rattle.rulebook.specs.State.{freed, is_live, stood}
 use Rattle.survey.specs.Rules.{Lives, Readable, Rule1, Rule2, Rule3, Rule4, Rule5, Rule6, Rule7, shown, slot}
-use Rattle.layout.specs.declared.Header.TheVariants as header
 
 -- rules 2 to 7 hold of a pool whose header gives the sizes d
 pub record Rest (d : Sizes) (p : List ℕ) : Type 0 where
@@ -27,18 +25,18 @@ pub record Rest (d : Sizes) (p : List ℕ) : Type 0 where
 
 -- ---- rule 1 is that the header gives the sizes
 
-good-bad : {d : Sizes} → header.Good d ≡ header.Bad → ⊥
+good-bad : {d : Sizes} → Some d ≡ None → ⊥
 good-bad q = let z : ◌≡◌ {A = ℕ} 0 1 = cc in omega arith
 
-pub header-one : (d : Sizes) (p : List ℕ) → header_of p ≡ header.Good d → Rule1 p
+pub header-one : (d : Sizes) (p : List ℕ) → header_of p ≡ Some d → Rule1 p
 header-one d p e = record { described = λ q. good-bad (sym e ∙ q) }
 
-pub one-header : (p : List ℕ) → Rule1 p → (d : Sizes) × (header_of p ≡ header.Good d)
+pub one-header : (p : List ℕ) → Rule1 p → (d : Sizes) × (header_of p ≡ Some d)
 one-header p r = at (header_of p) refl
   where
-    at : (x : Header) → header_of p ≡ x → (d : Sizes) × (header_of p ≡ header.Good d)
-    at header.Bad e = absurd (r.described e)
-    at (header.Good d) e = (d, e)
+    at : (x : Option Sizes) → header_of p ≡ x → (d : Sizes) × (header_of p ≡ Some d)
+    at None e = absurd (r.described e)
+    at (Some d) e = (d, e)
 
 -- ---- a sound store keeps the rules
 
@@ -93,7 +91,7 @@ module _ {d : Sizes} {p : List ℕ} (s : Sound d p) where
 
 -- ---- and where the rules hold the store is sound
 
-pub rest-sound : {d : Sizes} {p : List ℕ} → header_of p ≡ header.Good d → Rest d p → Sound d p
+pub rest-sound : {d : Sizes} {p : List ℕ} → header_of p ≡ Some d → Rest d p → Sound d p
 unfolding view_of
 rest-sound {d} {p} e r =
     record {

@@ -1,16 +1,14 @@
 -- The step of each code: for the function that goes by the code, one law for each arm.
 -- Rests on Seen and on layout's codes.
-use Rattle.std.specs.Prelude.{ℕ, ◌≤◌, ◌<◌, false, true, List, ◌⊎◌, eqb}
+use Rattle.std.specs.Prelude.{ℕ, ◌≤◌, ◌<◌, false, true, List, ◌⊎◌, eqb, Err, Ok}
 use Rattle.std.proofs.Common.{inl, inr, ◌∙◌, arith}
 use Rattle.std.proofs.Math.Path.{◌≡◌, ap, refl}
 use borrow.Author.Tests.{eq-eqb, le-ltb, lt-ltb, ne_eqb}
 use Rattle.acts.specs.declared.Reader.{Reader}
 use Rattle.acts.specs.declared.Reader.TheVariants as reader
-use Rattle.acts.specs.declared.Said.{Said}
-use Rattle.acts.specs.declared.StageRow.TheVariants as stagerow
 use Rattle.acts.specs.StepPlans.{plan_at, stage_for}
 use Rattle.acts.specs.Said.{said_of}
-use Rattle.layout.specs.Codes.{code_of, is_code, making_from, reading_from, setting_from, stage_coded, stage_from, stage_of}
+use Rattle.rulebook.specs.Codes.{code_of, is_code, making_from, reading_from, setting_from, stage_coded, stage_from, stage_of}
 use Rattle.layout.specs.Coding.{coded_none}
 use Rattle.rulebook.specs.declared.Reading.{Reading}
 use Rattle.rulebook.specs.declared.Reading.TheVariants as reading
@@ -21,6 +19,8 @@ use Rattle.rulebook.specs.declared.Stage.TheVariants as stage
 use Rattle.rulebook.specs.Tests.{by_test}
 use Rattle.work.specs.Seen.{reader_of, step_coded, taker_of}
 use Rattle.work.specs.Stepped.{does-refused, filling, step_at, taken_at}
+use Rattle.rulebook.specs.Codes.{damaged}
+use Rattle.rulebook.specs.declared.Reply.{Reply}
 
 -- ---- who reads, where a task goes on
 
@@ -49,15 +49,15 @@ pub ruleset coders = (reads-get, reads-copy, reads-page, takes-new, takes-copy)
 
 -- ---- an arm
 
-module _ (p : List ℕ) (d : Sizes) (t c : ℕ) (q : List ℕ) (s : Said) where
+module _ (p : List ℕ) (d : Sizes) (t c : ℕ) (q : List ℕ) (s : Reply) where
   -- n is the code of the stage g
   coded : (n : ℕ) (g : Stage) → is_code n ≡ true → stage_from n ≡ g → c ≡ n → (q, s) ≡ step_at p d t g → (q, s) ≡ step_coded p d t c
   unfolding step_coded
   coded n g y f e j = j ∙ rw (e, y, f)
 
-  pub at-idle : c ≡ 0 → s ≡ said_of (reply.Refused 6) → (p, s) ≡ step_coded p d t c
+  pub at-idle : c ≡ 0 → s ≡ reply.Refused 6 → (p, s) ≡ step_coded p d t c
   unfolding step_coded step_at plan_at is_code stage_from stage_of code_of
-  at-idle e j = ap (λ (z : Said). (p, z)) j ∙ does-refused p d t 6 ∙ rw e
+  at-idle e j = ap (λ (z : Reply). (p, z)) j ∙ does-refused p d t 6 ∙ rw e
 
   pub at_take : (c ≡ 13) ⊎ (c ≡ 37) → (g : Stage) → g ≡ taker_of c → (q, s) ≡ taken_at p d t g → (q, s) ≡ step_coded p d t c
   unfolding step_at plan_at taken_at taker_of is_code stage_from stage_of code_of making_from setting_from
@@ -137,10 +137,10 @@ module _ (p : List ℕ) (d : Sizes) (t c : ℕ) (a0 : c ≡ 0 → ⊥) (a13 : (c
   no_code : is_code c ≡ false
   unfolding stage_coded
   no_code =
-      let b : stagerow.Bad ≡ stage_coded c = coded_none c a0 (λ e. a13 (inl e)) (λ e. a14 (inl e)) a27 a28 (λ e. a29 (inl e)) (λ e. a30 (inl e)) (λ e. a13 (inr e)) a38 a39 a40 (λ e. a29 (inr (inl e))) (λ e. a30 (inr (inl e))) a43 a44 a45 a46 (λ e. a14 (inr e)) a51 a52 (λ e. a29 (inr (inr e))) (λ e. a30 (inr (inr e))) in
-      by_test (is_code c) (λ o. let q : stagerow.Bad ≡ stagerow.At (stage_from c) = (rw o at b) in let z : ◌≡◌ {A = ℕ} 0 1 = cc in absurd (omega arith)) (λ o. o)
+      let b : (Err damaged) ≡ stage_coded c = coded_none c a0 (λ e. a13 (inl e)) (λ e. a14 (inl e)) a27 a28 (λ e. a29 (inl e)) (λ e. a30 (inl e)) (λ e. a13 (inr e)) a38 a39 a40 (λ e. a29 (inr (inl e))) (λ e. a30 (inr (inl e))) a43 a44 a45 a46 (λ e. a14 (inr e)) a51 a52 (λ e. a29 (inr (inr e))) (λ e. a30 (inr (inr e))) in
+      by_test (is_code c) (λ o. let q : (Err damaged) ≡ Ok (stage_from c) = (rw o at b) in let z : ◌≡◌ {A = ℕ} 0 1 = cc in absurd (omega arith)) (λ o. o)
 
-  pub at_none : (s : Said) → s ≡ said_of (reply.Refused 2) → (p, s) ≡ step_coded p d t c
+  pub at_none : (s : Reply) → s ≡ reply.Refused 2 → (p, s) ≡ step_coded p d t c
   unfolding step_coded
   at_none s j = rw (no_code, j)
 

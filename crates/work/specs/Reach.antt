@@ -1,17 +1,13 @@
 -- Whatever a pool holds, what a plan names is there: the slot and the task that it changes.
 -- Rests on the ranges of the rows that were read.
-use Rattle.std.specs.Prelude.{◌+◌, ◌<◌, suc, zero, ℕ, Bool, ◌&&◌, ◌||◌, false, not, true, List, eqb, leb, get_or, if◌then◌else◌}
+use Rattle.std.specs.Prelude.{◌+◌, ◌<◌, suc, zero, ℕ, Bool, ◌&&◌, ◌||◌, false, not, true, List, eqb, leb, get_or, if◌then◌else◌, Err, None, Ok, Result, Some}
 use Rattle.std.proofs.Common.{true≢false, arith}
 use Rattle.std.proofs.Math.Path.{◌≡◌, refl}
 use Rattle.std.proofs.Math.Dec.{ltb}
 use borrow.Author.Tests.{leb-false, lt-ltb, ltb-true}
-use Rattle.acts.specs.declared.Act.{Act}
-use Rattle.acts.specs.declared.Found.{Found}
-use Rattle.acts.specs.declared.Live.{Live}
-use Rattle.acts.specs.declared.SlotRow.{SlotRow}
-use Rattle.acts.specs.declared.TaskRow.{TaskRow}
-use Rattle.acts.specs.declared.Touch.{Touch}
-use Rattle.block.specs.declared.Looked.{Looked}
+use Rattle.acts.specs.Acts.{Act}
+use Rattle.acts.specs.Acts.{Found}
+use Rattle.acts.specs.Acts.{Touch}
 use Rattle.rulebook.specs.declared.Reply.{Reply}
 use Rattle.rulebook.specs.declared.Sizes.{Sizes}
 use Rattle.rulebook.specs.declared.Slot.{Slot}
@@ -27,26 +23,22 @@ use Rattle.rulebook.specs.Sizes.{last_serial, slot_of}
 use Rattle.rulebook.specs.State.{idle, is_free}
 use Rattle.rulebook.specs.Tests.{by_test, if_case}
 use Rattle.work.specs.Asked.{FoundBelow}
-use Rattle.acts.specs.declared.Found.TheVariants as found
-use Rattle.acts.specs.declared.Live.TheVariants as live
-use Rattle.acts.specs.declared.Read.TheVariants as read
-use Rattle.acts.specs.declared.SlotRow.TheVariants as slotrow
-use Rattle.acts.specs.declared.TaskRow.TheVariants as taskrow
-use Rattle.acts.specs.declared.Touch.TheVariants as touch
+use Rattle.acts.specs.Acts as touch
 use Rattle.rulebook.specs.declared.Stage.TheVariants as stage
 use Rattle.rulebook.specs.declared.Reading.TheVariants as reading
 use Rattle.rulebook.specs.declared.Progress.TheVariants as progress
 use Rattle.rulebook.specs.declared.Reply.TheVariants as reply
-use Rattle.block.specs.declared.Looked.TheVariants as looked
-use Rattle.acts.specs.declared.Read as reads
+use Rattle.rulebook.specs.declared.Damaged.{Damaged}
+use Rattle.rulebook.specs.declared.Progress.{Progress}
+use Rattle.acts.specs.declared.Refusal.{Refusal}
 
 -- ---- what is found is among the rows that were tried
 
 -- a row's answer names the row
 abbrev pub Names : Found → ℕ → Type 0
-Names found.Bad i = Unit
-Names (found.At j) i = j ≡ i
-Names found.None i = Unit
+Names (Err _) i = Unit
+Names (Ok (Some j)) i = j ≡ i
+Names (Ok None) i = Unit
 
 pub names_if : (b : Bool) (j : ℕ) → Names (found_if b j) j
 names_if true j = refl
@@ -54,11 +46,11 @@ names_if false j = tt
 
 or_below : (x y : Found) (m : ℕ) → FoundBelow x m → Names y m → FoundBelow (or_else x y) (suc m)
 unfolding or_else
-or_below found.Bad y m h n = tt
-or_below (found.At j) y m h n = omega arith
-or_below found.None found.Bad m h n = tt
-or_below found.None (found.At j) m h n = omega arith
-or_below found.None found.None m h n = tt
+or_below (Err _) y m h n = tt
+or_below (Ok (Some j)) y m h n = omega arith
+or_below (Ok None) (Err _) m h n = tt
+or_below (Ok None) (Ok (Some j)) m h n = omega arith
+or_below (Ok None) (Ok None) m h n = tt
 
 pub first_below : (f : ℕ → Found) → ((i : ℕ) → Names (f i) i) → (m : ℕ) → FoundBelow (first_of f m) m
 unfolding first_of
@@ -66,10 +58,10 @@ first_below f h zero = tt
 first_below f h (suc m) = or_below (first_of f m) (f m) m (first_below f h m) (h m)
 
 module _ (p : List ℕ) (d : Sizes) where
-  vacant-names : (x : SlotRow) (j : ℕ) → Names (vacant x j) j
+  vacant-names : (x : Result Slot Damaged) (j : ℕ) → Names (vacant x j) j
   unfolding vacant
-  vacant-names slotrow.Bad j = tt
-  vacant-names (slotrow.Row y) j = names_if (is_free y.status && ltb y.serial last_serial) j
+  vacant-names (Err _) j = tt
+  vacant-names (Ok y) j = names_if (is_free y.status && ltb y.serial last_serial) j
 
   pub vacant-below : FoundBelow (vacant_in (sight p d)) d.h
   unfolding vacant_in vacant_at sight
@@ -79,9 +71,9 @@ module _ (p : List ℕ) (d : Sizes) where
 
 module _ (d : Sizes) where
   -- a slot whose row was read is there
-  abbrev Within : SlotRow → ℕ → Type 0
-  Within slotrow.Bad j = Unit
-  Within (slotrow.Row y) j = j < d.h
+  abbrev Within : Result Slot Damaged → ℕ → Type 0
+  Within (Err _) j = Unit
+  Within (Ok y) j = j < d.h
 
   pub reach-refused : (n : ℕ) → InReach d (refused n)
   unfolding slot_near task_near
@@ -99,43 +91,43 @@ module _ (d : Sizes) where
   reach_if b x y f g = if_case (InReach d) b f g
 
   module _ (t : ℕ) (in_t : t < d.t) where
-    reach-reserve : (y : SlotRow) (j : ℕ) (k : Task) → j < d.h → InReach d (reserves_for y j t k)
+    reach-reserve : (y : Result Slot Damaged) (j : ℕ) (k : Task) → j < d.h → InReach d (reserves_for y j t k)
     unfolding reserves_for
-    reach-reserve slotrow.Bad j k h = reach-refused 2
-    reach-reserve (slotrow.Row x) j k h = reach-ends touch.Nothing j _ t k reply.Quiet h in_t
+    reach-reserve (Err _) j k h = reach-refused 2
+    reach-reserve (Ok x) j k h = reach-ends touch.Nothing j _ t k reply.Quiet h in_t
 
-    reach-get : (q : reads.Read) (k : Task) → InReach d (get_goes q t k) × InReach d (page_goes q t k) × InReach d (copy_goes q t k)
+    reach-get : (q : Result Progress Damaged) (k : Task) → InReach d (get_goes q t k) × InReach d (page_goes q t k) × InReach d (copy_goes q t k)
     unfolding get_goes page_goes page_settles copy_goes
-    reach-get read.Bad k = (reach-refused 2, reach-refused 2, reach-refused 2)
-    reach-get (read.Got (progress.Going r w)) k = (reach-goes touch.Nothing t _ _ in_t, reach-goes touch.Nothing t _ _ in_t, reach-goes touch.Nothing t _ _ in_t)
-    reach-get (read.Got (progress.Settled w)) k =
+    reach-get (Err _) k = (reach-refused 2, reach-refused 2, reach-refused 2)
+    reach-get (Ok (progress.Going r w)) k = (reach-goes touch.Nothing t _ _ in_t, reach-goes touch.Nothing t _ _ in_t, reach-goes touch.Nothing t _ _ in_t)
+    reach-get (Ok (progress.Settled w)) k =
         (reach-goes touch.Nothing t _ _ in_t, reach_if (eqb (after w.cell) k.until) _ _ (λ _. reach-goes touch.Nothing t _ _ in_t) (λ _. reach-goes touch.Nothing t _ _ in_t), reach-goes touch.Nothing t _ _ in_t)
 
-    reach-finish : (y : SlotRow) (x : Touch) (k : Task) (b L : ℕ) → Within y k.fresh → InReach d (finishes y x t k b L)
+    reach-finish : (y : Result Slot Damaged) (x : Touch) (k : Task) (b L : ℕ) → Within y k.fresh → InReach d (finishes y x t k b L)
     unfolding finishes
-    reach-finish slotrow.Bad x k b L h = reach-refused 2
-    reach-finish (slotrow.Row y) x k b L h = reach_if (leb last_serial y.serial) _ _ (λ _. reach-refused 2) (λ _. reach-ends x k.fresh _ t idle _ h in_t)
+    reach-finish (Err _) x k b L h = reach-refused 2
+    reach-finish (Ok y) x k b L h = reach_if (leb last_serial y.serial) _ _ (λ _. reach-refused 2) (λ _. reach-ends x k.fresh _ t idle _ h in_t)
 
-    reach_give : (y : SlotRow) (k : Task) → Within y k.fresh → InReach d (gives_up y t k)
+    reach_give : (y : Result Slot Damaged) (k : Task) → Within y k.fresh → InReach d (gives_up y t k)
     unfolding gives_up
-    reach_give slotrow.Bad k h = reach-refused 2
-    reach_give (slotrow.Row y) k h = reach-ends touch.Nothing k.fresh _ t idle _ h in_t
+    reach_give (Err _) k h = reach-refused 2
+    reach_give (Ok y) k h = reach-ends touch.Nothing k.fresh _ t idle _ h in_t
 
     reach-take : (x : Found) (e : Sight) (k : Task) (g : Stage) → Within (e.slot k.fresh) k.fresh → InReach d (takes x e t k g)
     unfolding takes
-    reach-take found.Bad e k g h = reach-refused 2
-    reach-take (found.At b) e k g h = reach-goes (touch.Take b) t _ _ in_t
-    reach-take found.None e k g h = reach_give (e.slot k.fresh) k h
+    reach-take (Err _) e k g h = reach-refused 2
+    reach-take (Ok (Some b)) e k g h = reach-goes (touch.Take b) t _ _ in_t
+    reach-take (Ok None) e k g h = reach_give (e.slot k.fresh) k h
 
-    reach-exchange : (x : Looked) (n : ℕ) (k : Task) → InReach d (exchanges_on x n t k)
+    reach-exchange : (x : Result ℕ Damaged) (n : ℕ) (k : Task) → InReach d (exchanges_on x n t k)
     unfolding exchanges_on
-    reach-exchange looked.Bad n k = reach-refused 2
-    reach-exchange (looked.Word v) n k = reach_if (eqb v k.number) _ _ (λ _. reach-goes _ t _ _ in_t) (λ _. reach-goes touch.Nothing t _ _ in_t)
+    reach-exchange (Err _) n k = reach-refused 2
+    reach-exchange (Ok v) n k = reach_if (eqb v k.number) _ _ (λ _. reach-goes _ t _ _ in_t) (λ _. reach-goes touch.Nothing t _ _ in_t)
 
-    reach-old : (x : Looked) (k : Task) → InReach d (reads_old x t k)
+    reach-old : (x : Result ℕ Damaged) (k : Task) → InReach d (reads_old x t k)
     unfolding reads_old
-    reach-old looked.Bad k = reach-refused 2
-    reach-old (looked.Word v) k = reach-goes touch.Nothing t _ _ in_t
+    reach-old (Err _) k = reach-refused 2
+    reach-old (Ok v) k = reach-goes touch.Nothing t _ _ in_t
 
     reach-at : (g : Stage) (e : Sight) (k : Task) → Within (e.slot k.fresh) k.fresh → InReach d (plan_at g e t k)
     unfolding plan_at fills_new appends_entry writes_new fills_copy puts
@@ -162,8 +154,8 @@ module _ (p : List ℕ) (d : Sizes) (sp : Spans d p) where
   slot-within : (j : ℕ) → Within d (slot_seen p d j) j
   unfolding slot_seen slot_seen_of
   slot-within j =
-      if_case (λ (y : SlotRow). Within d y j) (ltb j d.h)
-      (λ o. if_case (λ (y : SlotRow). Within d y j) (ltb (get_or (slot_part p j) 1 0) 3) (λ _. ltb-true j d.h o) (λ _. tt)) (λ o. tt)
+      if_case (λ (y : Result Slot Damaged). Within d y j) (ltb j d.h)
+      (λ o. if_case (λ (y : Result Slot Damaged). Within d y j) (ltb (get_or (slot_part p j) 1 0) 3) (λ _. ltb-true j d.h o) (λ _. tt)) (λ o. tt)
 
   ready-below : (t : ℕ) → not (eqb (ready_in (sight p d) t) 0) ≡ false → t < d.t
   unfolding ready_in sight
@@ -175,35 +167,35 @@ module _ (p : List ℕ) (d : Sizes) (sp : Spans d p) where
 
     reach-new : (x : Found) (v : ℕ) → FoundBelow x d.h → t < d.t → InReach d (new_on x (sight p d) t v)
     unfolding new_on
-    reach-new found.Bad v n h = reach-refused d 2
-    reach-new (found.At j) v n h = reach-reserve d t h ((sight p d).slot j) j _ n
-    reach-new found.None v n h = reach-refused d 9
+    reach-new (Err _) v n h = reach-refused d 2
+    reach-new (Ok (Some j)) v n h = reach-reserve d t h ((sight p d).slot j) j _ n
+    reach-new (Ok None) v n h = reach-refused d 9
 
     reach-set : (x : Found) (y : Slot) (g i v : ℕ) → FoundBelow x d.h → t < d.t → InReach d (set_at x (sight p d) y t g i v)
     unfolding set_at
-    reach-set found.Bad y g i v n h = reach-refused d 2
-    reach-set (found.At j) y g i v n h = reach-reserve d t h ((sight p d).slot j) j _ n
-    reach-set found.None y g i v n h = reach-refused d 9
+    reach-set (Err _) y g i v n h = reach-refused d 2
+    reach-set (Ok (Some j)) y g i v n h = reach-reserve d t h ((sight p d).slot j) j _ n
+    reach-set (Ok None) y g i v n h = reach-refused d 9
 
     pub new_reaches : (v : ℕ) → InReach d (plan_new (sight p d) t v)
     unfolding plan_new
     new_reaches v = starts _ (reach-new (vacant_in (sight p d)) v (vacant-below p d))
 
     module _ (g i v : ℕ) where
-      get_on_lem : (x : Live) → t < d.t → InReach d (get_on x (sight p d) t g i)
+      get_on_lem : (x : Result Slot Refusal) → t < d.t → InReach d (get_on x (sight p d) t g i)
       unfolding get_on
-      get_on_lem (live.Not n) h = reach-refused d n
-      get_on_lem (live.On y) h = reach_if d (leb (sight p d).sizes.n i) _ _ (λ _. reach-refused d 8) (λ _. reach-goes d touch.Nothing t _ _ h)
+      get_on_lem (Err n) h = reach-refused d n
+      get_on_lem (Ok y) h = reach_if d (leb (sight p d).sizes.n i) _ _ (λ _. reach-refused d 8) (λ _. reach-goes d touch.Nothing t _ _ h)
 
-      set_on_lem : (x : Live) → t < d.t → InReach d (set_on x (sight p d) t g i v)
+      set_on_lem : (x : Result Slot Refusal) → t < d.t → InReach d (set_on x (sight p d) t g i v)
       unfolding set_on
-      set_on_lem (live.Not n) h = reach-refused d n
-      set_on_lem (live.On y) h = reach_if d (leb (sight p d).sizes.n i) _ _ (λ _. reach-refused d 8) (λ _. reach-set (vacant_in (sight p d)) y g i v (vacant-below p d) h)
+      set_on_lem (Err n) h = reach-refused d n
+      set_on_lem (Ok y) h = reach_if d (leb (sight p d).sizes.n i) _ _ (λ _. reach-refused d 8) (λ _. reach-set (vacant_in (sight p d)) y g i v (vacant-below p d) h)
 
-      page_on_lem : (x : Live) → t < d.t → InReach d (page_on x (sight p d) t g i v)
+      page_on_lem : (x : Result Slot Refusal) → t < d.t → InReach d (page_on x (sight p d) t g i v)
       unfolding page_on
-      page_on_lem (live.Not n) h = reach-refused d n
-      page_on_lem (live.On y) h = reach_if d (eqb v 0 || ltb (sight p d).sizes.n (i + v)) _ _ (λ _. reach-refused d 8) (λ _. reach-goes d touch.Nothing t _ _ h)
+      page_on_lem (Err n) h = reach-refused d n
+      page_on_lem (Ok y) h = reach_if d (eqb v 0 || ltb (sight p d).sizes.n (i + v)) _ _ (λ _. reach-refused d 8) (λ _. reach-goes d touch.Nothing t _ _ h)
 
       pub get_reaches : InReach d (plan_get (sight p d) t g i)
       unfolding plan_get
@@ -217,10 +209,10 @@ module _ (p : List ℕ) (d : Sizes) (sp : Spans d p) where
       unfolding plan_page
       page_reaches = starts _ (page_on_lem (live_in (sight p d) g))
 
-    row_on : (x : TaskRow) → t < d.t → InReach d (plan_row x (sight p d) t)
+    row_on : (x : Result Task Damaged) → t < d.t → InReach d (plan_row x (sight p d) t)
     unfolding plan_row sight ticked
-    row_on taskrow.Bad h = reach-refused d 2
-    row_on (taskrow.Row k) h = reach-at d t h k.stage (sight p d) (ticked k) (slot-within k.fresh)
+    row_on (Err _) h = reach-refused d 2
+    row_on (Ok k) h = reach-at d t h k.stage (sight p d) (ticked k) (slot-within k.fresh)
 
     pub step_reaches : InReach d (plan_step (sight p d) t)
     unfolding plan_step sight
@@ -228,16 +220,16 @@ module _ (p : List ℕ) (d : Sizes) (sp : Spans d p) where
 
   release_at_lem : (x : Found) (y : Slot) (h : ℕ) → slot_of h < d.h → InReach d (release_at x y h)
   unfolding release_at slot_near task_near
-  release_at_lem found.Bad y h n = reach-refused d 2
-  release_at_lem (found.At t) y h n = reach-refused d 11
-  release_at_lem found.None y h n = record { slot = lt-ltb (slot_of h) d.h n; task = refl }
+  release_at_lem (Err _) y h n = reach-refused d 2
+  release_at_lem (Ok (Some t)) y h n = reach-refused d 11
+  release_at_lem (Ok None) y h n = record { slot = lt-ltb (slot_of h) d.h n; task = refl }
 
-  live_below : (h : ℕ) (x : Live) → live_in (sight p d) h ≡ x → InReach d (release_on x (sight p d) h)
+  live_below : (h : ℕ) (x : Result Slot Refusal) → live_in (sight p d) h ≡ x → InReach d (release_on x (sight p d) h)
   unfolding live_in release_on sight
-  live_below h (live.Not n) e = reach-refused d n
-  live_below h (live.On y) e =
+  live_below h (Err n) e = reach-refused d n
+  live_below h (Ok y) e =
       by_test (leb d.h (slot_of h))
-      (λ b. let q : live.Not 7 ≡ live.On y = rw b at e in let z : ◌≡◌ {A = ℕ} 0 1 = cc in absurd (omega arith))
+      (λ b. let q : Err 7 ≡ Ok y = rw b at e in let z : ◌≡◌ {A = ℕ} 0 1 = cc in absurd (omega arith))
       (λ b. release_at_lem (user_in (sight p d) (slot_of h)) y h (leb-false d.h (slot_of h) b))
 
   pub release_reaches : (h : ℕ) → InReach d (plan_release (sight p d) h)

@@ -1,17 +1,14 @@
 -- The code that was read of a task's row: what the step of its stage does is what the plan of a step does.
 -- Rests on Stepped.
-use Rattle.std.specs.Prelude.{◌<◌, ◌≤◌, ℕ, List, ◌≡◌, ltb, get_or, if◌then◌else◌}
+use Rattle.std.specs.Prelude.{◌<◌, ◌≤◌, ℕ, List, ◌≡◌, ltb, get_or, if◌then◌else◌, Err, None, Ok, Result, Some}
 use Rattle.std.proofs.Common.{◌∙◌, sym}
 use Rattle.std.proofs.Math.Path.{ap, refl}
 use Rattle.std.proofs.Math.Dec.{eqb}
 use borrow.Author.Tests.{le-leb, lt-leb}
-use Rattle.acts.specs.declared.Act.{Act}
-use Rattle.acts.specs.declared.Found.{Found}
+use Rattle.acts.specs.Acts.{Act}
+use Rattle.acts.specs.Acts.{Found}
 use Rattle.acts.specs.declared.Reader.{Reader}
-use Rattle.acts.specs.declared.Said.{Said}
-use Rattle.acts.specs.declared.SlotRow.{SlotRow}
-use Rattle.acts.specs.declared.Touch.{Touch}
-use Rattle.block.specs.declared.Looked.{Looked}
+use Rattle.acts.specs.Acts.{Touch}
 use Rattle.rulebook.specs.declared.Reading.{Reading}
 use Rattle.rulebook.specs.declared.Sizes.{Sizes}
 use Rattle.rulebook.specs.declared.Stage.{Stage}
@@ -22,23 +19,22 @@ use Rattle.acts.specs.Said.{said_of}
 use Rattle.acts.specs.Sight.{Sight}
 use Rattle.layout.specs.Places.{Spans, task_part}
 use Rattle.layout.specs.Pool.{sight, task_seen}
-use Rattle.layout.specs.Codes.{is_code, stage_from}
+use Rattle.rulebook.specs.Codes.{is_code, stage_from}
 use Rattle.layout.specs.Rows.{task_read, task_seen_of}
 use Rattle.rulebook.specs.State.{hand_of}
 use Rattle.rulebook.specs.Steps.{moved}
 use Rattle.rulebook.specs.Tests.{by_test}
-use Rattle.acts.specs.declared.Found.TheVariants as found
-use Rattle.acts.specs.declared.Read.TheVariants as read
 use Rattle.acts.specs.declared.Reader.TheVariants as reader
-use Rattle.acts.specs.declared.SlotRow.TheVariants as slotrow
-use Rattle.acts.specs.declared.Touch.TheVariants as touch
+use Rattle.acts.specs.Acts as touch
 use Rattle.rulebook.specs.declared.Progress.TheVariants as progress
 use Rattle.rulebook.specs.declared.Reading.TheVariants as reading
 use Rattle.rulebook.specs.declared.Reply.TheVariants as reply
 use Rattle.rulebook.specs.declared.Stage.TheVariants as stage
-use Rattle.block.specs.declared.Looked.TheVariants as looked
-use Rattle.acts.specs.declared.Read as reads
 use Rattle.work.specs.Stepped.{Held, does, does-refused, step_at, task_up}
+use Rattle.rulebook.specs.declared.Damaged.{Damaged}
+use Rattle.rulebook.specs.declared.Slot.{Slot}
+use Rattle.rulebook.specs.declared.Progress.{Progress}
+use Rattle.rulebook.specs.declared.Reply.{Reply}
 
 -- ---- a stage does not ask what stage the task has
 
@@ -47,17 +43,17 @@ module _ (e : Sight) (t : ℕ) (k : Task) (h : Stage) where
   abbrev again : Task
   again = record { stage = h; slot = k.slot; block = k.block; number = k.number; cell = k.cell; value = k.value; until = k.until; fresh = k.fresh; target = k.target; hand = k.hand; steps = k.steps }
 
-  any_reads : (o : Reader) (x : reads.Read) → goes_on o x t k ≡ goes_on o x t again
+  any_reads : (o : Reader) (x : Result Progress Damaged) → goes_on o x t k ≡ goes_on o x t again
   unfolding goes_on get_goes copy_goes page_goes page_settles moved
-  any_reads reader.Get read.Bad = refl
-  any_reads reader.Get (read.Got (progress.Going r w)) = refl
-  any_reads reader.Get (read.Got (progress.Settled w)) = refl
-  any_reads reader.Copy read.Bad = refl
-  any_reads reader.Copy (read.Got (progress.Going r w)) = refl
-  any_reads reader.Copy (read.Got (progress.Settled w)) = refl
-  any_reads reader.Page read.Bad = refl
-  any_reads reader.Page (read.Got (progress.Going r w)) = refl
-  any_reads reader.Page (read.Got (progress.Settled w)) = refl
+  any_reads reader.Get (Err _) = refl
+  any_reads reader.Get (Ok (progress.Going r w)) = refl
+  any_reads reader.Get (Ok (progress.Settled w)) = refl
+  any_reads reader.Copy (Err _) = refl
+  any_reads reader.Copy (Ok (progress.Going r w)) = refl
+  any_reads reader.Copy (Ok (progress.Settled w)) = refl
+  any_reads reader.Page (Err _) = refl
+  any_reads reader.Page (Ok (progress.Going r w)) = refl
+  any_reads reader.Page (Ok (progress.Settled w)) = refl
 
   any_read_in : (r : Reading) → read_in r e k ≡ read_in r e again
   unfolding read_in
@@ -66,34 +62,34 @@ module _ (e : Sight) (t : ℕ) (k : Task) (h : Stage) where
   any_read_in reading.Length = refl
   any_read_in reading.Probe = refl
 
-  any_finishes : (y : SlotRow) (x : Touch) (b l : ℕ) → finishes y x t k b l ≡ finishes y x t again b l
+  any_finishes : (y : Result Slot Damaged) (x : Touch) (b l : ℕ) → finishes y x t k b l ≡ finishes y x t again b l
   unfolding finishes
-  any_finishes slotrow.Bad x b l = refl
-  any_finishes (slotrow.Row y) x b l = refl
+  any_finishes (Err _) x b l = refl
+  any_finishes (Ok y) x b l = refl
 
-  any_gives : (y : SlotRow) → gives_up y t k ≡ gives_up y t again
+  any_gives : (y : Result Slot Damaged) → gives_up y t k ≡ gives_up y t again
   unfolding gives_up
-  any_gives slotrow.Bad = refl
-  any_gives (slotrow.Row y) = refl
+  any_gives (Err _) = refl
+  any_gives (Ok y) = refl
 
   any_takes : (x : Found) (g : Stage) → takes x e t k g ≡ takes x e t again g
   unfolding takes moved
-  any_takes found.Bad g = refl
-  any_takes (found.At b) g = refl
-  any_takes found.None g = any_gives (e.slot k.fresh)
+  any_takes (Err _) g = refl
+  any_takes (Ok (Some b)) g = refl
+  any_takes (Ok None) g = any_gives (e.slot k.fresh)
 
-  any_exchanges : (x : Looked) (n : ℕ) → exchanges_on x n t k ≡ exchanges_on x n t again
+  any_exchanges : (x : Result ℕ Damaged) (n : ℕ) → exchanges_on x n t k ≡ exchanges_on x n t again
   unfolding exchanges_on moved
-  any_exchanges looked.Bad n = refl
-  any_exchanges (looked.Word v) n = refl
+  any_exchanges (Err _) n = refl
+  any_exchanges (Ok v) n = refl
 
-  any_old : (x : Looked) → reads_old x t k ≡ reads_old x t again
+  any_old : (x : Result ℕ Damaged) → reads_old x t k ≡ reads_old x t again
   unfolding reads_old moved
-  any_old looked.Bad = refl
-  any_old (looked.Word v) = refl
+  any_old (Err _) = refl
+  any_old (Ok v) = refl
 
   any_reading : (o : Reader) (r : Reading) → goes_on o (read_in r e k) t k ≡ goes_on o (read_in r e again) t again
-  any_reading o r = any_reads o (read_in r e k) ∙ ap (λ (x : reads.Read). goes_on o x t again) (any_read_in r)
+  any_reading o r = any_reads o (read_in r e k) ∙ ap (λ (x : Result Progress Damaged). goes_on o x t again) (any_read_in r)
 
   pub plan_any : (g : Stage) → plan_at g e t k ≡ plan_at g e t again
   unfolding plan_at fills_new appends_entry writes_new fills_copy puts moved
@@ -123,8 +119,8 @@ unfoldable pub taker_of : ℕ → Stage
 taker_of c = if eqb c 13 then stage.FillNew else stage.Copying reading.Guess
 
 -- a step at the stage whose code is c
-unfoldable pub step_coded : List ℕ → Sizes → ℕ → ℕ → List ℕ × Said
-step_coded p d t c = if is_code c then step_at p d t (stage_from c) else (p, said_of (reply.Refused 2))
+unfoldable pub step_coded : List ℕ → Sizes → ℕ → ℕ → List ℕ × Reply
+step_coded p d t c = if is_code c then step_at p d t (stage_from c) else (p, reply.Refused 2)
 
 module _ (p : List ℕ) (d : Sizes) (t : ℕ) where
   -- the task of the row goes up, at its stage
@@ -135,15 +131,15 @@ module _ (p : List ℕ) (d : Sizes) (t : ℕ) where
   pub seen-held : Spans d p → t < d.t → Held d p t
   seen-held sp l = record { spans = sp; below = l }
 
-  pub seen-is : (c : ℕ) (q : List ℕ) (s : Said) → t < d.t → c ≡ get_or (task_part p d t) 0 0 → (q, s) ≡ step_coded p d t c → (q, s) ≡ does p d t (plan_step (sight p d) t)
+  pub seen-is : (c : ℕ) (q : List ℕ) (s : Reply) → t < d.t → c ≡ get_or (task_part p d t) 0 0 → (q, s) ≡ step_coded p d t c → (q, s) ≡ does p d t (plan_step (sight p d) t)
   unfolding step_coded plan_step plan_row sight task_seen task_seen_of step_at
   seen-is c q s l e f =
       f ∙ rw (e, lt-leb d.t t l) (by_test (is_code (get_or (task_part p d t) 0 0))
       (λ o. rw o (ap (does p d t) (sym (up_as (stage_from (get_or (task_part p d t) 0 0))) ∙ (unfold task_read in refl))))
       (λ o. rw o (does-refused p d t 2)))
 
-  pub seen_none : (s : Said) → d.t ≤ t → s ≡ said_of (reply.Refused 4) → (p, s) ≡ does p d t (plan_step (sight p d) t)
+  pub seen_none : (s : Reply) → d.t ≤ t → s ≡ reply.Refused 4 → (p, s) ≡ does p d t (plan_step (sight p d) t)
   unfolding plan_step sight
-  seen_none s l g = ap (λ (z : Said). (p, z)) g ∙ does-refused p d t 4 ∙ ap (does p d t) (rw (le-leb d.t t l))
+  seen_none s l g = ap (λ (z : Reply). (p, z)) g ∙ does-refused p d t 4 ∙ ap (does p d t) (rw (le-leb d.t t l))
 
 pub ruleset steps = (seen-held, seen-is, seen_none)

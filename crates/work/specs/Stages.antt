@@ -3,13 +3,10 @@
 use Prim.Native.Nat.{◌<◌, ◌≤◌, ℕ}
 use mathlib.Core.List.{List}
 use Rattle.std.proofs.Common.{◌∙◌, sym}
-use Rattle.std.specs.Prelude.{◌≡◌, eqb, leb, if◌then◌else◌}
+use Rattle.std.specs.Prelude.{◌≡◌, eqb, leb, if◌then◌else◌, Err, Ok, Result}
 use Rattle.std.proofs.Math.Path.{ap, refl}
 use borrow.Author.Tests.{eq-eqb, le-leb, lt-leb, ne_eqb}
 use Rattle.acts.specs.declared.Reader.{Reader}
-use Rattle.acts.specs.declared.Said.{Said}
-use Rattle.block.specs.declared.Looked.{Looked}
-use Rattle.block.specs.declared.Probed.{Probed}
 use Rattle.rulebook.specs.declared.Entry.{Entry}
 use Rattle.rulebook.specs.declared.Hand.{Hand}
 use Rattle.rulebook.specs.declared.Reading.{Reading}
@@ -26,16 +23,16 @@ use Rattle.rulebook.specs.State.{hand_of, idle}
 use Rattle.rulebook.specs.Steps.{answer, guessed, middle, moved, probed_at, searching}
 use Rattle.rulebook.specs.Tests.{by_test, if_case}
 use Rattle.work.specs.Stepped.{bounded_at, does, does-goes, does-refused, got_at, paged_at, settled_at, step_at, task_up, turned_to}
-use Rattle.acts.specs.declared.Read.TheVariants as read
 use Rattle.acts.specs.declared.Reader.TheVariants as reader
-use Rattle.acts.specs.declared.Touch.TheVariants as touch
-use Rattle.block.specs.declared.Looked.TheVariants as looked
-use Rattle.block.specs.declared.Probed.TheVariants as probed
+use Rattle.acts.specs.Acts as touch
 use Rattle.rulebook.specs.declared.Progress.TheVariants as progress
 use Rattle.rulebook.specs.declared.Reading.TheVariants as reading
 use Rattle.rulebook.specs.declared.Reply.TheVariants as reply
 use Rattle.rulebook.specs.declared.Stage.TheVariants as stage
-use Rattle.acts.specs.declared.Read as reads
+use Rattle.rulebook.specs.Codes.{damaged}
+use Rattle.rulebook.specs.declared.Damaged.{Damaged}
+use Rattle.rulebook.specs.declared.Progress.{Progress}
+use Rattle.rulebook.specs.declared.Reply.{Reply}
 
 module _ (p : List ℕ) (d : Sizes) (t : ℕ) where
   -- ---- the row of the task
@@ -48,32 +45,32 @@ module _ (p : List ℕ) (d : Sizes) (t : ℕ) where
     pub up-cell : k.hand.cell ≡ (task_up p d t).hand.cell
     up-cell = ap (λ (z : Task). z.hand.cell) e
 
-    pub turn_is : (z : Task) (g : Stage) (w : Hand) (q : List ℕ) (r : Said) → z ≡ moved k g w → q ≡ put_task p d t z → r ≡ said_of reply.Quiet → (q, r) ≡ turned_to p d t g w
+    pub turn_is : (z : Task) (g : Stage) (w : Hand) (q : List ℕ) (r : Reply) → z ≡ moved k g w → q ≡ put_task p d t z → r ≡ reply.Quiet → (q, r) ≡ turned_to p d t g w
     unfolding turned_to
     turn_is z g w q r f h i = rw (h, f, e, i)
 
     -- ---- a cell that is settled
 
-    module _ (v : ℕ) (q : List ℕ) (r : Said) (f : q ≡ put_task p d t idle) where
-      pub got-is : r ≡ said_of (reply.Got k.steps k.hand.cell v) → (q, r) ≡ got_at p d t v
+    module _ (v : ℕ) (q : List ℕ) (r : Reply) (f : q ≡ put_task p d t idle) where
+      pub got-is : r ≡ reply.Got k.steps k.hand.cell v → (q, r) ≡ got_at p d t v
       unfolding got_at
       got-is g = rw (f, g, e)
 
-      pub page-ends : (n : ℕ) → n ≡ after k.hand.cell → n ≡ k.until → r ≡ said_of (reply.HandedLast k.steps k.hand.cell v) → (q, r) ≡ paged_at p d t v
+      pub page-ends : (n : ℕ) → n ≡ after k.hand.cell → n ≡ k.until → r ≡ reply.HandedLast k.steps k.hand.cell v → (q, r) ≡ paged_at p d t v
       unfolding paged_at
       page-ends n m l g = rw (f, g, ← e, ← m, eq-eqb n k.until l)
 
-    pub page_goes_lem : (v : ℕ) (w : Hand) (q : List ℕ) (r s : Said) (n : ℕ) → n ≡ after k.hand.cell → (n ≡ k.until → ⊥) → w ≡ hand_of n
-        → (q, r) ≡ turned_to p d t (stage.Paging reading.Guess) w → s ≡ said_of (reply.Handed k.hand.cell v) → (q, s) ≡ paged_at p d t v
+    pub page_goes_lem : (v : ℕ) (w : Hand) (q : List ℕ) (r s : Reply) (n : ℕ) → n ≡ after k.hand.cell → (n ≡ k.until → ⊥) → w ≡ hand_of n
+        → (q, r) ≡ turned_to p d t (stage.Paging reading.Guess) w → s ≡ reply.Handed k.hand.cell v → (q, s) ≡ paged_at p d t v
     unfolding paged_at turned_to
     page_goes_lem v w q r s n m l f g h =
-        let y : q ≡ put_task p d t (moved (task_up p d t) (stage.Paging reading.Guess) w) = ap (λ (z : List ℕ × Said). z.0) g in
+        let y : q ≡ put_task p d t (moved (task_up p d t) (stage.Paging reading.Guess) w) = ap (λ (z : List ℕ × Reply). z.0) g in
         rw (y, h, f, ← e, ← m, ne_eqb n k.until l)
 
   pub rest-is : (z : Task) (q : List ℕ) → z ≡ idle → q ≡ put_task p d t z → q ≡ put_task p d t idle
   rest-is z q e f = rw (f, e)
 
-  module _ (o : Reader) (w : Hand) (q : List ℕ) (r : Said) where
+  module _ (o : Reader) (w : Hand) (q : List ℕ) (r : Reply) where
     pub settle_get : (v : ℕ) → o ≡ reader.Get → w.cell ≡ (task_up p d t).hand.cell → v ≡ answer w → (q, r) ≡ got_at p d t v → (q, r) ≡ settled_at p d t o w
     unfolding settled_at goes_on get_goes got_at
     settle_get v e c f g = g ∙ rw (e, f, ← c) (does-goes p d t _ _)
@@ -83,11 +80,11 @@ module _ (p : List ℕ) (d : Sizes) (t : ℕ) where
     settle_copy e g = g ∙ rw e (does-goes p d t _ _)
 
     -- a page's cell c of value v is settled
-    abbrev paged : ℕ → ℕ → List ℕ × Said
+    abbrev paged : ℕ → ℕ → List ℕ × Reply
     paged c v =
         if eqb (after c) (task_up p d t).until
-        then (put_task p d t idle, said_of (reply.HandedLast (task_up p d t).steps c v))
-        else (put_task p d t (moved (task_up p d t) (stage.Paging reading.Guess) (hand_of (after c))), said_of (reply.Handed c v))
+        then (put_task p d t idle, reply.HandedLast (task_up p d t).steps c v)
+        else (put_task p d t (moved (task_up p d t) (stage.Paging reading.Guess) (hand_of (after c))), reply.Handed c v)
 
     page_settled : paged w.cell (answer w) ≡ does p d t (page_settles w t (task_up p d t))
     unfolding page_settles
@@ -109,58 +106,58 @@ module _ (p : List ℕ) (d : Sizes) (t : ℕ) where
         at reader.Copy = refl
         at reader.Page = refl
 
-    reads-bad : (s : Said) → read_in r (sight p d) (task_up p d t) ≡ read.Bad → s ≡ said_of (reply.Refused 2) → (p, s) ≡ step_at p d t (stage_for o r)
-    reads-bad s e f = ap (λ (z : Said). (p, z)) f ∙ does-refused p d t 2 ∙ ap (does p d t) (at o) ∙ as_reading
+    reads-bad : (s : Reply) → read_in r (sight p d) (task_up p d t) ≡ Err damaged → s ≡ reply.Refused 2 → (p, s) ≡ step_at p d t (stage_for o r)
+    reads-bad s e f = ap (λ (z : Reply). (p, z)) f ∙ does-refused p d t 2 ∙ ap (does p d t) (at o) ∙ as_reading
       where
         at : (x : Reader) → refused 2 ≡ goes_on x (read_in r (sight p d) (task_up p d t)) t (task_up p d t)
         at reader.Get = unfold goes_on get_goes in rw e
         at reader.Copy = unfold goes_on copy_goes in rw e
         at reader.Page = unfold goes_on page_goes in rw e
 
-    goes_as : (w : Hand) → turned_to p d t (stage_for o r) w ≡ does p d t (goes_on o (read.Got (progress.Going r w)) t (task_up p d t))
+    goes_as : (w : Hand) → turned_to p d t (stage_for o r) w ≡ does p d t (goes_on o (Ok (progress.Going r w)) t (task_up p d t))
     unfolding turned_to
     goes_as w = does-goes p d t (moved (task_up p d t) (stage_for o r) w) reply.Quiet ∙ ap (does p d t) (at o)
       where
-        at : (x : Reader) → goes touch.Nothing t (moved (task_up p d t) (stage_for x r) w) reply.Quiet ≡ goes_on x (read.Got (progress.Going r w)) t (task_up p d t)
+        at : (x : Reader) → goes touch.Nothing t (moved (task_up p d t) (stage_for x r) w) reply.Quiet ≡ goes_on x (Ok (progress.Going r w)) t (task_up p d t)
         at reader.Get = unfold goes_on get_goes in refl
         at reader.Copy = unfold goes_on copy_goes in refl
         at reader.Page = unfold goes_on page_goes in refl
 
   module _ (o : Reader) (r : Reading) where
-    reads_on : (n : Reading) (w : Hand) → read_in r (sight p d) (task_up p d t) ≡ read.Got (progress.Going n w) → turned_to p d t (stage_for o n) w ≡ step_at p d t (stage_for o r)
-    reads_on n w e = goes_as o n w ∙ ap (λ (x : reads.Read). does p d t (goes_on o x t (task_up p d t))) (sym e) ∙ as_reading o r
+    reads_on : (n : Reading) (w : Hand) → read_in r (sight p d) (task_up p d t) ≡ Ok (progress.Going n w) → turned_to p d t (stage_for o n) w ≡ step_at p d t (stage_for o r)
+    reads_on n w e = goes_as o n w ∙ ap (λ (x : Result Progress Damaged). does p d t (goes_on o x t (task_up p d t))) (sym e) ∙ as_reading o r
 
-    reads_settled : (w : Hand) → read_in r (sight p d) (task_up p d t) ≡ read.Got (progress.Settled w) → settled_at p d t o w ≡ step_at p d t (stage_for o r)
+    reads_settled : (w : Hand) → read_in r (sight p d) (task_up p d t) ≡ Ok (progress.Settled w) → settled_at p d t o w ≡ step_at p d t (stage_for o r)
     unfolding settled_at
-    reads_settled w e = ap (λ (x : reads.Read). does p d t (goes_on o x t (task_up p d t))) (sym e) ∙ as_reading o r
+    reads_settled w e = ap (λ (x : Result Progress Damaged). does p d t (goes_on o x t (task_up p d t))) (sym e) ∙ as_reading o r
 
-  module _ (o : Reader) (k : Task) (e : k ≡ task_up p d t) (q : List ℕ) (s : Said) where
+  module _ (o : Reader) (k : Task) (e : k ≡ task_up p d t) (q : List ℕ) (s : Reply) where
     -- the guess
-    module _ (x : Looked) (f : x ≡ cell_seen p d k.block k.hand.cell) where
+    module _ (x : Result ℕ Damaged) (f : x ≡ cell_seen p d k.block k.hand.cell) where
       guess_in : read_in reading.Guess (sight p d) (task_up p d t) ≡ read_guess x k.hand
       unfolding read_in sight
       guess_in = rw (← e, f)
 
-      pub guess-bad : x ≡ looked.Bad → s ≡ said_of (reply.Refused 2) → (p, s) ≡ step_at p d t (stage_for o reading.Guess)
+      pub guess-bad : x ≡ Err damaged → s ≡ reply.Refused 2 → (p, s) ≡ step_at p d t (stage_for o reading.Guess)
       unfolding read_guess
       guess-bad g h = reads-bad o reading.Guess s (guess_in ∙ rw g) h
 
-      pub guess-on : (v : ℕ) (w : Hand) (n : Stage) → x ≡ looked.Word v → w ≡ guessed k.hand v → n ≡ stage_for o reading.Version → (q, s) ≡ turned_to p d t n w
+      pub guess-on : (v : ℕ) (w : Hand) (n : Stage) → x ≡ Ok v → w ≡ guessed k.hand v → n ≡ stage_for o reading.Version → (q, s) ≡ turned_to p d t n w
           → (q, s) ≡ step_at p d t (stage_for o reading.Guess)
       unfolding read_guess
       guess-on v w n g h i j = j ∙ rw i (reads_on o reading.Guess reading.Version w (guess_in ∙ rw (g, h)))
 
     -- V
-    module _ (x : Looked) (f : x ≡ version_seen p d k.block) where
+    module _ (x : Result ℕ Damaged) (f : x ≡ version_seen p d k.block) where
       version_in : read_in reading.Version (sight p d) (task_up p d t) ≡ read_version x k.number k.hand
       unfolding read_in sight
       version_in = rw (← e, f)
 
-      pub version-bad : x ≡ looked.Bad → s ≡ said_of (reply.Refused 2) → (p, s) ≡ step_at p d t (stage_for o reading.Version)
+      pub version-bad : x ≡ Err damaged → s ≡ reply.Refused 2 → (p, s) ≡ step_at p d t (stage_for o reading.Version)
       unfolding read_version
       version-bad g h = reads-bad o reading.Version s (version_in ∙ rw g) h
 
-      module _ (v : ℕ) (g : x ≡ looked.Word v) where
+      module _ (v : ℕ) (g : x ≡ Ok v) where
         pub version-settles : v ≡ k.number → (q, s) ≡ settled_at p d t o k.hand → (q, s) ≡ step_at p d t (stage_for o reading.Version)
         unfolding read_version
         version-settles h j = j ∙ reads_settled o reading.Version k.hand (version_in ∙ rw (g, eq-eqb v k.number h))
@@ -170,16 +167,16 @@ module _ (p : List ℕ) (d : Sizes) (t : ℕ) where
         version-on n h i j = j ∙ rw i (reads_on o reading.Version reading.Length k.hand (version_in ∙ rw (g, ne_eqb v k.number h)))
 
     -- the log's length
-    module _ (x : Looked) (f : x ≡ length_seen p d k.block k.hand.cell) where
+    module _ (x : Result ℕ Damaged) (f : x ≡ length_seen p d k.block k.hand.cell) where
       length_in : read_in reading.Length (sight p d) (task_up p d t) ≡ read_length x k.hand
       unfolding read_in sight
       length_in = rw (← e, f)
 
-      pub length-bad : x ≡ looked.Bad → s ≡ said_of (reply.Refused 2) → (p, s) ≡ step_at p d t (stage_for o reading.Length)
+      pub length-bad : x ≡ Err damaged → s ≡ reply.Refused 2 → (p, s) ≡ step_at p d t (stage_for o reading.Length)
       unfolding read_length
       length-bad g h = reads-bad o reading.Length s (length_in ∙ rw g) h
 
-      module _ (m : ℕ) (g : x ≡ looked.Word m) where
+      module _ (m : ℕ) (g : x ≡ Ok m) where
         pub length-settles : m ≡ 0 → (q, s) ≡ settled_at p d t o k.hand → (q, s) ≡ step_at p d t (stage_for o reading.Length)
         unfolding read_length
         length-settles h j = j ∙ reads_settled o reading.Length k.hand (length_in ∙ rw (g, eq-eqb m 0 h))
@@ -189,24 +186,24 @@ module _ (p : List ℕ) (d : Sizes) (t : ℕ) where
         length-on w n h l i j = j ∙ rw i (reads_on o reading.Length reading.Probe w (length_in ∙ rw (g, ne_eqb m 0 h, l)))
 
     -- a probe
-    pub probe_over : k.hand.hi ≤ k.hand.lo → s ≡ said_of (reply.Refused 2) → (p, s) ≡ step_at p d t (stage_for o reading.Probe)
+    pub probe_over : k.hand.hi ≤ k.hand.lo → s ≡ reply.Refused 2 → (p, s) ≡ step_at p d t (stage_for o reading.Probe)
     unfolding read_in
     probe_over l h = reads-bad o reading.Probe s (rw (← e, le-leb k.hand.hi k.hand.lo l)) h
 
-    module _ (l : k.hand.lo < k.hand.hi) (m : ℕ) (c : m ≡ middle k.hand) (x : Probed) (f : x ≡ entry_seen p d k.block k.hand.cell m) where
+    module _ (l : k.hand.lo < k.hand.hi) (m : ℕ) (c : m ≡ middle k.hand) (x : Result Entry Damaged) (f : x ≡ entry_seen p d k.block k.hand.cell m) where
       probe_in : read_in reading.Probe (sight p d) (task_up p d t) ≡ read_entry x k.number k.hand
       unfolding read_in sight
       probe_in = rw (← e, lt-leb k.hand.hi k.hand.lo l, ← c, f)
 
-      pub probe_bad : x ≡ probed.Bad → s ≡ said_of (reply.Refused 2) → (p, s) ≡ step_at p d t (stage_for o reading.Probe)
+      pub probe_bad : x ≡ Err damaged → s ≡ reply.Refused 2 → (p, s) ≡ step_at p d t (stage_for o reading.Probe)
       unfolding read_entry
       probe_bad g h = reads-bad o reading.Probe s (probe_in ∙ rw g) h
 
-      pub probe_on : (y : Entry) (w : Hand) → x ≡ probed.Found y → w ≡ probed_at (middle k.hand) y k.number k.hand → (q, s) ≡ bounded_at p d t o w → (q, s) ≡ step_at p d t (stage_for o reading.Probe)
+      pub probe_on : (y : Entry) (w : Hand) → x ≡ Ok y → w ≡ probed_at (middle k.hand) y k.number k.hand → (q, s) ≡ bounded_at p d t o w → (q, s) ≡ step_at p d t (stage_for o reading.Probe)
       unfolding read_entry bounded_at
-      probe_on y w g h j = j ∙ rw (h) (ap (λ (z : reads.Read). does p d t (goes_on o z t (task_up p d t))) (sym (probe_in ∙ rw g))) ∙ as_reading o reading.Probe
+      probe_on y w g h j = j ∙ rw (h) (ap (λ (z : Result Progress Damaged). does p d t (goes_on o z t (task_up p d t))) (sym (probe_in ∙ rw g))) ∙ as_reading o reading.Probe
 
-  module _ (o : Reader) (w : Hand) (q : List ℕ) (s : Said) where
+  module _ (o : Reader) (w : Hand) (q : List ℕ) (s : Reply) where
     pub bounds_meet : w.lo ≡ w.hi → (q, s) ≡ settled_at p d t o w → (q, s) ≡ bounded_at p d t o w
     unfolding bounded_at settled_at
     bounds_meet i j = j ∙ rw (eq-eqb w.lo w.hi i)

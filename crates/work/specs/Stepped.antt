@@ -1,16 +1,14 @@
 -- What a step leaves and says, stage by stage, on the row of its task and one block; and what doing an act leaves and says.
 -- Rests on acts' plans and on what doing an act leaves of the words.
 use Prim.Native.Nat.{◌+◌, ◌<◌, ◌≤◌, ℕ}
-use Rattle.std.specs.Prelude.{Bool, not, true, ◌≡◌, eqb, leb, if◌then◌else◌}
+use Rattle.std.specs.Prelude.{Bool, not, true, ◌≡◌, eqb, leb, if◌then◌else◌, Err, Ok, Result}
 use Rattle.std.proofs.Math.Bool.{false}
 use mathlib.Core.List.{List}
 use Rattle.std.proofs.Common.{◌∙◌, subst}
 use Rattle.std.proofs.Math.Path.{ap, refl, sym}
-use Rattle.acts.specs.declared.Act.{Act}
+use Rattle.acts.specs.Acts.{Act}
 use Rattle.acts.specs.declared.Reader.{Reader}
-use Rattle.acts.specs.declared.Said.{Said}
-use Rattle.acts.specs.declared.SlotRow.{SlotRow}
-use Rattle.acts.specs.declared.Touch.{Touch}
+use Rattle.acts.specs.Acts.{Touch}
 use Rattle.rulebook.specs.declared.Hand.{Hand}
 use Rattle.rulebook.specs.declared.Reply.{Reply}
 use Rattle.rulebook.specs.declared.Sizes.{Sizes}
@@ -29,19 +27,18 @@ use Rattle.layout.specs.Rows.{task_with}
 use Rattle.rulebook.specs.Sizes.{last_serial, public_number}
 use Rattle.rulebook.specs.State.{hand_of, idle}
 use Rattle.rulebook.specs.Steps.{aimed, moved}
-use Rattle.acts.specs.declared.Read.TheVariants as read
-use Rattle.acts.specs.declared.SlotRow.TheVariants as slotrow
-use Rattle.acts.specs.declared.Touch.TheVariants as touch
+use Rattle.acts.specs.Acts as touch
 use Rattle.rulebook.specs.declared.Progress.TheVariants as progress
 use Rattle.rulebook.specs.declared.Reading.TheVariants as reading
 use Rattle.rulebook.specs.declared.Reply.TheVariants as reply
 use Rattle.rulebook.specs.declared.Stage.TheVariants as stage
 use Rattle.rulebook.specs.declared.Status.TheVariants as status
+use Rattle.rulebook.specs.declared.Damaged.{Damaged}
 
 -- the serial that a reserved slot gets; 0 where its row is bad or it is spent
-unfoldable pub next_serial : SlotRow → ℕ
-next_serial slotrow.Bad = 0
-next_serial (slotrow.Row x) = if leb last_serial x.serial then 0 else x.serial + 1
+unfoldable pub next_serial : Result Slot Damaged → ℕ
+next_serial (Err _) = 0
+next_serial (Ok x) = if leb last_serial x.serial then 0 else x.serial + 1
 
 -- a block being filled, by a new or by the last write of a copy: its stage, whether a cell follows the one in hand, and else the last cell
 unfoldable pub filling : Bool → Stage
@@ -60,80 +57,80 @@ module _ (p : List ℕ) (d : Sizes) (t : ℕ) where
   task_up = ticked (task_with stage.Idle (task_part p d t))
 
   -- what an act leaves and says
-  abbrev pub does : Act → List ℕ × Said
-  does a = told_in (applied_in p d a)
+  abbrev pub does : Act → List ℕ × Reply
+  does a = (applied_in p d a)
 
   -- a step at stage g
-  unfoldable pub step_at : Stage → List ℕ × Said
+  unfoldable pub step_at : Stage → List ℕ × Reply
   step_at g = does (plan_at g (sight p d) t task_up)
 
   -- the task goes on at stage g with w in hand
-  unfoldable pub turned_to : Stage → Hand → List ℕ × Said
-  turned_to g w = (put_task p d t (moved task_up g w), said_of reply.Quiet)
+  unfoldable pub turned_to : Stage → Hand → List ℕ × Reply
+  turned_to g w = (put_task p d t (moved task_up g w), reply.Quiet)
 
   -- the cell in hand is settled: of a get, of a page, of whoever reads
-  unfoldable pub got_at : ℕ → List ℕ × Said
-  got_at v = (put_task p d t idle, said_of (reply.Got task_up.steps task_up.hand.cell v))
+  unfoldable pub got_at : ℕ → List ℕ × Reply
+  got_at v = (put_task p d t idle, reply.Got task_up.steps task_up.hand.cell v)
 
-  unfoldable pub paged_at : ℕ → List ℕ × Said
+  unfoldable pub paged_at : ℕ → List ℕ × Reply
   paged_at v =
       if eqb (after task_up.hand.cell) task_up.until
-      then (put_task p d t idle, said_of (reply.HandedLast task_up.steps task_up.hand.cell v))
-      else (put_task p d t (moved task_up (stage.Paging reading.Guess) (hand_of (after task_up.hand.cell))), said_of (reply.Handed task_up.hand.cell v))
+      then (put_task p d t idle, reply.HandedLast task_up.steps task_up.hand.cell v)
+      else (put_task p d t (moved task_up (stage.Paging reading.Guess) (hand_of (after task_up.hand.cell))), reply.Handed task_up.hand.cell v)
 
   -- a search that has come to the hand w is over, or goes on
-  unfoldable pub bounded_at : Reader → Hand → List ℕ × Said
-  bounded_at o w = does (goes_on o (read.Got (after_bounds w)) t task_up)
+  unfoldable pub bounded_at : Reader → Hand → List ℕ × Reply
+  bounded_at o w = does (goes_on o (Ok (after_bounds w)) t task_up)
 
-  unfoldable pub settled_at : Reader → Hand → List ℕ × Said
-  settled_at o w = does (goes_on o (read.Got (progress.Settled w)) t task_up)
+  unfoldable pub settled_at : Reader → Hand → List ℕ × Reply
+  settled_at o w = does (goes_on o (Ok (progress.Settled w)) t task_up)
 
   -- where a set goes on after its exchange, and a copy after a cell is written
-  unfoldable pub exchanged_on : List ℕ × Said
-  exchanged_on = (put_task p d t (after_exchange d.n task_up), said_of reply.Quiet)
+  unfoldable pub exchanged_on : List ℕ × Reply
+  exchanged_on = (put_task p d t (after_exchange d.n task_up), reply.Quiet)
 
-  unfoldable pub copied_on : List ℕ × Said
-  copied_on = (put_task p d t (after_fill d.n task_up), said_of reply.Quiet)
+  unfoldable pub copied_on : List ℕ × Reply
+  copied_on = (put_task p d t (after_fill d.n task_up), reply.Quiet)
 
   -- a handle is made; a block is taken; none is free
-  unfoldable pub made_at : ℕ → ℕ → ℕ → List ℕ × Said
+  unfoldable pub made_at : ℕ → ℕ → ℕ → List ℕ × Reply
   made_at serial b l =
-      (put_task (put_slot p task_up.fresh (record { serial = serial; status = status.Live; block = b; number = l })) d t idle, said_of (reply.Made task_up.steps (public_number task_up.fresh serial)))
+      (put_task (put_slot p task_up.fresh (record { serial = serial; status = status.Live; block = b; number = l })) d t idle, reply.Made task_up.steps (public_number task_up.fresh serial))
 
-  unfoldable pub took_at : Stage → ℕ → List ℕ × Said
+  unfoldable pub took_at : Stage → ℕ → List ℕ × Reply
   took_at g b = does (goes (touch.Take b) t (aimed (moved task_up g (hand_of 0)) b) reply.Quiet)
 
-  unfoldable pub aimed_at : Stage → ℕ → List ℕ × Said
-  aimed_at g b = (put_task p d t (aimed (moved task_up g (hand_of 0)) b), said_of reply.Quiet)
+  unfoldable pub aimed_at : Stage → ℕ → List ℕ × Reply
+  aimed_at g b = (put_task p d t (aimed (moved task_up g (hand_of 0)) b), reply.Quiet)
 
-  unfoldable pub given_up : List ℕ × Said
+  unfoldable pub given_up : List ℕ × Reply
   given_up = does (gives_up (slot_seen p d task_up.fresh) t task_up)
 
-  unfoldable pub taken_at : Stage → List ℕ × Said
+  unfoldable pub taken_at : Stage → List ℕ × Reply
   taken_at g = does (takes (free_in (sight p d)) (sight p d) t task_up g)
 
   -- the task ends: a block is touched, and its handle is made there, with the serial s
-  abbrev pub made_on : Touch → ℕ → ℕ → ℕ → List ℕ × Said
+  abbrev pub made_on : Touch → ℕ → ℕ → ℕ → List ℕ × Reply
   made_on x s b l =
       does (ends x task_up.fresh (record { serial = s; status = status.Live; block = b; number = l }) t idle (reply.Made task_up.steps (public_number task_up.fresh s)))
 
-  unfoldable pub write_made : ℕ → List ℕ × Said
+  unfoldable pub write_made : ℕ → List ℕ × Reply
   write_made s = made_on (touch.Write task_up.block task_up.cell task_up.value) s task_up.block (after task_up.number)
 
-  unfoldable pub fill_made : ℕ → ℕ → List ℕ × Said
+  unfoldable pub fill_made : ℕ → ℕ → List ℕ × Reply
   fill_made s i = made_on (touch.Fill task_up.target i task_up.value) s task_up.target 0
 
   -- the last write to a block being filled, at cell i
-  unfoldable pub filled_last : ℕ → List ℕ × Said
+  unfoldable pub filled_last : ℕ → List ℕ × Reply
   filled_last i = does (finishes (slot_seen p d task_up.fresh) (touch.Fill task_up.target i task_up.value) t task_up task_up.target 0)
 
   -- a new's cell, and the next comes
-  unfoldable pub filled_next : List ℕ × Said
+  unfoldable pub filled_next : List ℕ × Reply
   filled_next =
       does (goes (touch.Fill task_up.target task_up.hand.cell task_up.value) t (moved task_up stage.FillNew (hand_of (after task_up.hand.cell))) reply.Quiet)
 
   -- a first set's exchange
-  unfoldable pub first_set : List ℕ × Said
+  unfoldable pub first_set : List ℕ × Reply
   first_set = does (goes (touch.Exchange task_up.block task_up.number) t (after_exchange d.n task_up) reply.Quiet)
 
 -- the pool has a task t
@@ -155,7 +152,7 @@ pub record Fresh (d : Sizes) (p : List ℕ) (t s : ℕ) : Type 0 where
 -- ---- doing an act
 
 module _ (p : List ℕ) (d : Sizes) (t : ℕ) where
-  pub does-refused : (n : ℕ) → (p, said_of (reply.Refused n)) ≡ does p d t (refused n)
+  pub does-refused : (n : ℕ) → (p, reply.Refused n) ≡ does p d t (refused n)
   unfolding told_in
   does-refused n = rw (applied_answers p d (reply.Refused n))
 
@@ -177,7 +174,7 @@ module _ (p : List ℕ) (d : Sizes) (t : ℕ) where
     does-ends j y z r e = rw (applied_done p d (ends x j y t z r) (sym (ap (λ (y : List ℕ × Bool). y.1) e)), ← (ap (λ (y : List ℕ × Bool). y.0) e))
 
     -- a block that can not be touched so: no word changes
-    pub does_not : (a : Act) → a.touch ≡ x → (q, false) ≡ touched_in p d x → (q, said_of (reply.Refused 2)) ≡ does p d t a
+    pub does_not : (a : Act) → a.touch ≡ x → (q, false) ≡ touched_in p d x → (q, reply.Refused 2) ≡ does p d t a
     unfolding told_in
     does_not a e f =
         let h : (touched_in p d a.touch).1 ≡ false = ap (λ (y : Touch). (touched_in p d y).1) e ∙ sym (ap (λ (y : List ℕ × Bool). y.1) f) in

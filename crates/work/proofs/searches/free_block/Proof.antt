@@ -1,12 +1,12 @@
 use Prim.Native.Nat.{◌-◌, ◌≤◌}
 use mathlib.Core.Path.{◌≡◌}
-use Rattle.acts.specs.declared.Found.TheVariants.{None}
 use Rattle.acts.specs.Plans.{first_of, free_at}
 use Rattle.layout.specs.Pool.{sight}
 use Rattle.work.specs.Scans.{scans, theres}
 use borrow.Author.Rules.{rules}
 use Rattle.work.proofs.searches.free_block.Statement.{statement}
 use Rattle.work.proofs.searches.free_block.Tie as tie
+use Rattle.std.specs.Prelude.{None}
 
 abbrev invariant_loop : tie.invariant-loop-d
 invariant_loop words d b₀ b = (b ≤ d.b) × (first_of (free_at (sight words d)) b ≡ None)

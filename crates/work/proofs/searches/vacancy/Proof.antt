@@ -1,12 +1,12 @@
 use Prim.Native.Nat.{◌-◌, ◌≤◌}
 use mathlib.Core.Path.{◌≡◌}
-use Rattle.acts.specs.declared.Found.TheVariants.{None}
 use Rattle.acts.specs.Plans.{first_of, vacant_at}
 use Rattle.layout.specs.Pool.{sight}
 use Rattle.work.specs.Scans.{scans}
 use borrow.Author.Rules.{rules}
 use Rattle.work.proofs.searches.vacancy.Statement.{statement}
 use Rattle.work.proofs.searches.vacancy.Tie as tie
+use Rattle.std.specs.Prelude.{None}
 
 abbrev invariant_loop : tie.invariant-loop-j
 invariant_loop words d j₀ j = (j ≤ d.h) × (first_of (vacant_at (sight words d)) j ≡ None)
