@@ -2,11 +2,9 @@
 -- Rests on the rule book's definitions.
 use Rattle.std.specs.Prelude.{◌+◌, [], ◌++◌, ◌∷◌}
 use Rattle.rulebook.specs.State.{Result, State, block_at, log_at, with_block, with_cell, with_log, with_slot, with_task, with_version}
-use Rattle.acts.specs.Acts.{Act}
-use Rattle.acts.specs.Acts.{SlotChange}
-use Rattle.acts.specs.Acts.{TaskChange}
-use Rattle.acts.specs.Acts.{Touch}
-use Rattle.acts.specs.Acts as touch
+use Rattle.acts.specs.Acts.{Act, SlotChange, TaskChange}
+use Rattle.acts.specs.Touch.{Touch}
+use Rattle.acts.specs.Touch as touch
 use Rattle.acts.specs.Acts as change
 
 unfoldable pub touched : State → Touch → State

@@ -1,9 +1,11 @@
 -- What the looks and the report answer, from what they see; 2 where a bad row or word is first read.
 -- Rests on Sight and Plans' searches.
-use Rattle.std.specs.Prelude.{◌+◌, suc, zero, ℕ, not, eqb, leb, if◌then◌else◌, Err, None, Ok, Result, Some}
+use Rattle.std.specs.Prelude.{◌+◌, ◌<◌, suc, zero, ℕ, not, eqb, leb, if◌then◌else◌, Err, None, Ok, Result, Some}
 use Rattle.rulebook.specs.declared.Reply.{Reply}
 use Rattle.rulebook.specs.State.{is_live}
 use Rattle.acts.specs.Plans.{found_if, stander_in}
+use Rattle.acts.specs.Told.{refused_as}
+use Rattle.acts.specs.declared.Refusal.TheVariants as refusal
 use Rattle.acts.specs.Sight.{Sight}
 use Rattle.acts.specs.Acts.{Found}
 use Rattle.rulebook.specs.declared.Reply.TheVariants as reply
@@ -12,6 +14,7 @@ use Rattle.rulebook.specs.declared.Damaged.{Damaged}
 use Rattle.rulebook.specs.declared.Entry.{Entry}
 use Rattle.rulebook.specs.declared.Slot.{Slot}
 use Rattle.rulebook.specs.declared.Task.{Task}
+use Rattle.acts.specs.declared.Refusal.{Refusal}
 
 -- a word, shown
 unfoldable pub shows : Result ℕ Damaged → Reply
@@ -22,27 +25,28 @@ unfoldable pub shows_entry : Result Entry Damaged → Reply
 shows_entry (Err _) = reply.Refused 2
 shows_entry (Ok e) = reply.ShownEntry e
 
--- the refusal of a look at block b: 0 where a live handle stands on it
-unfoldable pub unseen : Found → ℕ
-unseen (Err _) = 2
-unseen (Ok (Some j)) = 0
-unseen (Ok None) = 12
+-- a live handle stands on block b
+unfoldable pub visible : Found → Result Unit Refusal
+visible (Err _) = Err refusal.Damaged
+visible (Ok (Some j)) = Ok tt
+visible (Ok None) = Err refusal.Unseen
 
-unfoldable pub unseen_in : Sight → ℕ → ℕ
-unseen_in e b = if leb e.sizes.b b then 12 else unseen (stander_in e b)
+unfoldable pub visible_in : Sight → ℕ → Result Unit Refusal
+visible_in e b = if leb e.sizes.b b then Err refusal.Unseen else visible (stander_in e b)
+
+-- r, where a test before it is passed
+unfoldable pub where_visible : Result Unit Refusal → Reply → Reply
+where_visible (Ok _) r = r
+where_visible (Err x) r = refused_as x
 
 unfoldable pub sees_version : Sight → ℕ → Reply
-sees_version e b = if not (eqb (unseen_in e b) 0) then reply.Refused (unseen_in e b) else shows (e.version b)
+sees_version e b = where_visible (visible_in e b) (shows (e.version b))
 
 unfoldable pub sees_cell : Sight → ℕ → ℕ → Reply
-sees_cell e b i =
-    if not (eqb (unseen_in e b) 0) then reply.Refused (unseen_in e b) else
-    if leb e.sizes.n i then reply.Refused 12 else shows (e.cell b i)
+sees_cell e b i = where_visible (visible_in e b) (if leb e.sizes.n i then reply.Refused 12 else shows (e.cell b i))
 
 unfoldable pub sees_log : Sight → ℕ → ℕ → Reply
-sees_log e b i =
-    if not (eqb (unseen_in e b) 0) then reply.Refused (unseen_in e b) else
-    if leb e.sizes.n i then reply.Refused 12 else shows (e.log b i)
+sees_log e b i = where_visible (visible_in e b) (if leb e.sizes.n i then reply.Refused 12 else shows (e.log b i))
 
 -- entry j of a log whose length was read
 unfoldable pub sees_under : Result ℕ Damaged → Sight → ℕ → ℕ → ℕ → Reply
@@ -50,9 +54,7 @@ sees_under (Err _) e b i j = reply.Refused 2
 sees_under (Ok m) e b i j = if leb m j then reply.Refused 12 else shows_entry (e.entry b i j)
 
 unfoldable pub sees_entry : Sight → ℕ → ℕ → ℕ → Reply
-sees_entry e b i j =
-    if not (eqb (unseen_in e b) 0) then reply.Refused (unseen_in e b) else
-    if leb e.sizes.n i then reply.Refused 12 else sees_under (e.log b i) e b i j
+sees_entry e b i j = where_visible (visible_in e b) (if leb e.sizes.n i then reply.Refused 12 else sees_under (e.log b i) e b i j)
 
 unfoldable pub sees_row : Result Task Damaged → Reply
 sees_row (Err _) = reply.Refused 2
@@ -69,6 +71,11 @@ plus (Err _) x = Err damaged
 plus (Ok m) (Err _) = Err damaged
 plus (Ok m) (Ok (Some j)) = Ok (m + 1)
 plus (Ok m) (Ok None) = Ok m
+
+-- a count that one more fits
+abbrev pub CountBelow : Result ℕ Damaged → Type 0
+CountBelow (Err _) = Unit
+CountBelow (Ok m) = m < 4294967295
 
 -- at how many of 0, .. m - 1 f finds something
 unfoldable pub count_of : (ℕ → Found) → ℕ → Result ℕ Damaged

@@ -9,10 +9,10 @@ use Rattle.rulebook.specs.declared.Task.{Task}
 use Rattle.rulebook.specs.Sizes.{last_serial, serial_of, slot_of}
 use Rattle.rulebook.specs.State.{busy, fills, freed, hand_of, is_free, is_live, names}
 use Rattle.acts.specs.Sight.{Sight}
-use Rattle.acts.specs.Acts.{Act}
-use Rattle.acts.specs.Acts.{Found}
-use Rattle.acts.specs.Acts.{Touch}
-use Rattle.acts.specs.Acts as touch
+use Rattle.acts.specs.Told.{refused_as}
+use Rattle.acts.specs.Acts.{Act, Found}
+use Rattle.acts.specs.Touch.{Touch}
+use Rattle.acts.specs.Touch as touch
 use Rattle.acts.specs.Acts as change
 use Rattle.rulebook.specs.declared.Stage.TheVariants as stage
 use Rattle.rulebook.specs.declared.Status.TheVariants as status
@@ -21,6 +21,7 @@ use Rattle.rulebook.specs.declared.Reading.TheVariants as reading
 use Rattle.rulebook.specs.Codes.{damaged}
 use Rattle.rulebook.specs.declared.Damaged.{Damaged}
 use Rattle.acts.specs.declared.Refusal.{Refusal}
+use Rattle.acts.specs.declared.Refusal.TheVariants as refusal
 
 -- ---- acts
 
@@ -28,8 +29,13 @@ use Rattle.acts.specs.declared.Refusal.{Refusal}
 abbrev pub answers : Reply → Act
 answers r = record { touch = touch.Nothing; slot = change.Same; task = change.Same; reply = r }
 
-abbrev pub refused : ℕ → Act
-refused n = answers (reply.Refused n)
+abbrev pub refused : Refusal → Act
+refused r = answers (refused_as r)
+
+-- a, where a test before it is passed
+unfoldable pub unless : Result Unit Refusal → Act → Act
+unless (Ok _) a = a
+unless (Err r) a = refused r
 
 -- one block is touched, and task t becomes k
 abbrev pub goes : Touch → ℕ → Task → Reply → Act
@@ -131,25 +137,25 @@ free_in e = first_of (free_at e) e.sizes.b
 
 -- ---- before a start
 
--- 4, 2 or 5; 0 where the task may start
-unfoldable pub ready_row : Result Task Damaged → ℕ
-ready_row (Err _) = 2
-ready_row (Ok k) = if busy k.stage then 5 else 0
+-- the task may start
+unfoldable pub ready_row : Result Task Damaged → Result Unit Refusal
+ready_row (Err _) = Err refusal.Damaged
+ready_row (Ok k) = if busy k.stage then Err refusal.Busy else Ok tt
 
-unfoldable pub ready_in : Sight → ℕ → ℕ
-ready_in e t = if leb e.sizes.t t then 4 else ready_row (e.task t)
+unfoldable pub ready_in : Sight → ℕ → Result Unit Refusal
+ready_in e t = if leb e.sizes.t t then Err refusal.NoTask else ready_row (e.task t)
 
 -- a live handle whose block is not there, or whose number is above N, is bad
 unfoldable pub placed : Sizes → Slot → Result Slot Refusal
-placed d x = if ltb x.block d.b && leb x.number d.n then Ok x else Err 2
+placed d x = if ltb x.block d.b && leb x.number d.n then Ok x else Err refusal.Damaged
 
 unfoldable pub live_row : Sizes → Result Slot Damaged → ℕ → Result Slot Refusal
-live_row d (Err _) h = Err 2
-live_row d (Ok x) h = if is_live x.status && eqb x.serial (serial_of h) then placed d x else Err 7
+live_row d (Err _) h = Err refusal.Damaged
+live_row d (Ok x) h = if is_live x.status && eqb x.serial (serial_of h) then placed d x else Err refusal.Dead
 
 -- the slot of the handle h, where it is live with that serial
 unfoldable pub live_in : Sight → ℕ → Result Slot Refusal
-live_in e h = if leb e.sizes.h (slot_of h) then Err 7 else live_row e.sizes (e.slot (slot_of h)) h
+live_in e h = if leb e.sizes.h (slot_of h) then Err refusal.Dead else live_row e.sizes (e.slot (slot_of h)) h
 
 -- a task on the handle h, whose slot is x
 abbrev pub begun_on : Slot → ℕ → Stage → ℕ → ℕ → ℕ → ℕ → Task
@@ -167,67 +173,55 @@ reserved_as serial = record { serial = serial; status = status.Reserved; block =
 
 -- slot j, whose row is y, is reserved for the task k, which is started
 unfoldable pub reserves_for : Result Slot Damaged → ℕ → ℕ → Task → Act
-reserves_for (Err _) j t k = refused 2
+reserves_for (Err _) j t k = refused refusal.Damaged
 reserves_for (Ok y) j t k = ends touch.Nothing j (reserved_as y.serial) t k reply.Quiet
 
 unfoldable pub new_on : Found → Sight → ℕ → ℕ → Act
-new_on (Err _) e t v = refused 2
+new_on (Err _) e t v = refused refusal.Damaged
 new_on (Ok (Some j)) e t v = reserves_for (e.slot j) j t (maker v j)
-new_on (Ok None) e t v = refused 9
+new_on (Ok None) e t v = refused refusal.NoSlot
 
 unfoldable pub plan_new : Sight → ℕ → ℕ → Act
-plan_new e t v = if not (eqb (ready_in e t) 0) then refused (ready_in e t) else new_on (vacant_in e) e t v
+plan_new e t v = unless (ready_in e t) (new_on (vacant_in e) e t v)
 
 unfoldable pub get_on : Result Slot Refusal → Sight → ℕ → ℕ → ℕ → Act
-get_on (Err n) e t h i = refused n
+get_on (Err r) e t h i = refused r
 get_on (Ok x) e t h i =
-    if leb e.sizes.n i then refused 8 else goes touch.Nothing t (begun_on x h (stage.Getting reading.Guess) i 0 0 0) reply.Quiet
+    if leb e.sizes.n i then refused refusal.NoCell else goes touch.Nothing t (begun_on x h (stage.Getting reading.Guess) i 0 0 0) reply.Quiet
 
 unfoldable pub plan_get : Sight → ℕ → ℕ → ℕ → Act
-plan_get e t h i = if not (eqb (ready_in e t) 0) then refused (ready_in e t) else get_on (live_in e h) e t h i
+plan_get e t h i = unless (ready_in e t) (get_on (live_in e h) e t h i)
 
 unfoldable pub set_at : Found → Sight → Slot → ℕ → ℕ → ℕ → ℕ → Act
-set_at (Err _) e x t h i v = refused 2
+set_at (Err _) e x t h i v = refused refusal.Damaged
 set_at (Ok (Some j)) e x t h i v = reserves_for (e.slot j) j t (begun_on x h stage.Exchange i v 0 j)
-set_at (Ok None) e x t h i v = refused 9
+set_at (Ok None) e x t h i v = refused refusal.NoSlot
 
 unfoldable pub set_on : Result Slot Refusal → Sight → ℕ → ℕ → ℕ → ℕ → Act
-set_on (Err n) e t h i v = refused n
-set_on (Ok x) e t h i v = if leb e.sizes.n i then refused 8 else set_at (vacant_in e) e x t h i v
+set_on (Err r) e t h i v = refused r
+set_on (Ok x) e t h i v = if leb e.sizes.n i then refused refusal.NoCell else set_at (vacant_in e) e x t h i v
 
 unfoldable pub plan_set : Sight → ℕ → ℕ → ℕ → ℕ → Act
-plan_set e t h i v = if not (eqb (ready_in e t) 0) then refused (ready_in e t) else set_on (live_in e h) e t h i v
+plan_set e t h i v = unless (ready_in e t) (set_on (live_in e h) e t h i v)
 
 unfoldable pub page_on : Result Slot Refusal → Sight → ℕ → ℕ → ℕ → ℕ → Act
-page_on (Err n) e t h from m = refused n
+page_on (Err r) e t h from m = refused r
 page_on (Ok x) e t h from m =
-    if eqb m 0 || ltb e.sizes.n (from + m) then refused 8 else goes touch.Nothing t (begun_on x h (stage.Paging reading.Guess) from 0 (from + m) 0) reply.Quiet
+    if eqb m 0 || ltb e.sizes.n (from + m) then refused refusal.NoCell else goes touch.Nothing t (begun_on x h (stage.Paging reading.Guess) from 0 (from + m) 0) reply.Quiet
 
 unfoldable pub plan_page : Sight → ℕ → ℕ → ℕ → ℕ → Act
-plan_page e t h from m = if not (eqb (ready_in e t) 0) then refused (ready_in e t) else page_on (live_in e h) e t h from m
+plan_page e t h from m = unless (ready_in e t) (page_on (live_in e h) e t h from m)
 
 -- ---- release
 
 -- its refusals, in their order: the handle is not live; a task names its slot
-unfoldable pub earlier_of : ℕ → ℕ → ℕ
-earlier_of n m = if eqb n 0 then m else n
-
-abbrev pub dead_of : Result Slot Refusal → ℕ
-dead_of (Err m) = m
-dead_of (Ok x) = 0
-
-abbrev pub in_use_of : Found → ℕ
-in_use_of (Err _) = 2
-in_use_of (Ok (Some t)) = 11
-in_use_of (Ok None) = 0
-
 unfoldable pub release_at : Found → Slot → ℕ → Act
-release_at (Err _) x h = refused 2
-release_at (Ok (Some t)) x h = refused 11
+release_at (Err _) x h = refused refusal.Damaged
+release_at (Ok (Some t)) x h = refused refusal.InUse
 release_at (Ok None) x h = record { touch = touch.Nothing; slot = change.To (slot_of h) (freed x.serial); task = change.Same; reply = reply.Quiet }
 
 unfoldable pub release_on : Result Slot Refusal → Sight → ℕ → Act
-release_on (Err n) e h = refused n
+release_on (Err r) e h = refused r
 release_on (Ok x) e h = release_at (user_in e (slot_of h)) x h
 
 unfoldable pub plan_release : Sight → ℕ → Act

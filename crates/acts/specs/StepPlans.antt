@@ -11,12 +11,11 @@ use Rattle.rulebook.specs.Sizes.{last_serial, public_number}
 use Rattle.rulebook.specs.State.{freed, hand_of, idle}
 use Rattle.rulebook.specs.Steps.{aimed, answer, guessed, middle, moved, probed_at, searching}
 use Rattle.acts.specs.Sight.{Sight}
-use Rattle.acts.specs.Acts.{Act}
-use Rattle.acts.specs.Acts.{Found}
+use Rattle.acts.specs.Acts.{Act, Found}
 use Rattle.acts.specs.declared.Reader.{Reader}
-use Rattle.acts.specs.Acts.{Touch}
+use Rattle.acts.specs.Touch.{Touch}
 use Rattle.acts.specs.declared.Reader.TheVariants as reader
-use Rattle.acts.specs.Acts as touch
+use Rattle.acts.specs.Touch as touch
 use Rattle.rulebook.specs.declared.Stage.TheVariants as stage
 use Rattle.rulebook.specs.declared.Status.TheVariants as status
 use Rattle.rulebook.specs.declared.Reply.TheVariants as reply
@@ -26,6 +25,7 @@ use Rattle.acts.specs.Plans.{after, ends, free_in, goes, refused, ticked}
 use Rattle.rulebook.specs.Codes.{damaged}
 use Rattle.rulebook.specs.declared.Damaged.{Damaged}
 use Rattle.rulebook.specs.declared.Slot.{Slot}
+use Rattle.acts.specs.declared.Refusal.TheVariants as refusal
 
 -- ---- one step of a get: what follows from what it reads
 
@@ -72,7 +72,7 @@ read_in reading.Probe e k =
 -- ---- what it means for a get, a page and a copy
 
 unfoldable pub get_goes : Result Progress Damaged → ℕ → Task → Act
-get_goes (Err _) t k = refused 2
+get_goes (Err _) t k = refused refusal.Damaged
 get_goes (Ok (progress.Going r w)) t k = goes touch.Nothing t (moved k (stage.Getting r) w) reply.Quiet
 get_goes (Ok (progress.Settled w)) t k = goes touch.Nothing t idle (reply.Got k.steps w.cell (answer w))
 
@@ -83,12 +83,12 @@ page_settles w t k =
     else goes touch.Nothing t (moved k (stage.Paging reading.Guess) (hand_of (after w.cell))) (reply.Handed w.cell (answer w))
 
 unfoldable pub page_goes : Result Progress Damaged → ℕ → Task → Act
-page_goes (Err _) t k = refused 2
+page_goes (Err _) t k = refused refusal.Damaged
 page_goes (Ok (progress.Going r w)) t k = goes touch.Nothing t (moved k (stage.Paging r) w) reply.Quiet
 page_goes (Ok (progress.Settled w)) t k = page_settles w t k
 
 unfoldable pub copy_goes : Result Progress Damaged → ℕ → Task → Act
-copy_goes (Err _) t k = refused 2
+copy_goes (Err _) t k = refused refusal.Damaged
 copy_goes (Ok (progress.Going r w)) t k = goes touch.Nothing t (moved k (stage.Copying r) w) reply.Quiet
 copy_goes (Ok (progress.Settled w)) t k = goes touch.Nothing t (moved k stage.FillCopy w) reply.Quiet
 
@@ -107,18 +107,18 @@ goes_on reader.Page x t k = page_goes x t k
 
 -- the task is idle, and its slot, whose row is y, carries a handle on block b with number L
 unfoldable pub finishes : Result Slot Damaged → Touch → ℕ → Task → ℕ → ℕ → Act
-finishes (Err _) x t k b L = refused 2
+finishes (Err _) x t k b L = refused refusal.Damaged
 finishes (Ok y) x t k b L =
-    if leb last_serial y.serial then refused 2 else
+    if leb last_serial y.serial then refused refusal.Damaged else
     ends x k.fresh (record { serial = y.serial + 1; status = status.Live; block = b; number = L }) t idle (reply.Made k.steps (public_number k.fresh (y.serial + 1)))
 
 -- refused 10
 unfoldable pub gives_up : Result Slot Damaged → ℕ → Task → Act
-gives_up (Err _) t k = refused 2
+gives_up (Err _) t k = refused refusal.Damaged
 gives_up (Ok y) t k = ends touch.Nothing k.fresh (freed y.serial) t idle (reply.Full k.steps)
 
 unfoldable pub takes : Found → Sight → ℕ → Task → Stage → Act
-takes (Err _) e t k g = refused 2
+takes (Err _) e t k g = refused refusal.Damaged
 takes (Ok (Some b)) e t k g = goes (touch.Take b) t (aimed (moved k g (hand_of 0)) b) reply.Quiet
 takes (Ok None) e t k g = gives_up (e.slot k.fresh) t k
 
@@ -132,14 +132,14 @@ abbrev pub after_exchange : ℕ → Task → Task
 after_exchange n k = if ltb k.number n then moved k stage.Read k.hand else moved k stage.TakeCopy (hand_of 0)
 
 unfoldable pub exchanges_on : Result ℕ Damaged → ℕ → ℕ → Task → Act
-exchanges_on (Err _) n t k = refused 2
+exchanges_on (Err _) n t k = refused refusal.Damaged
 exchanges_on (Ok v) n t k =
     if eqb v k.number
     then goes (touch.Exchange k.block k.number) t (after_exchange n k) reply.Quiet
     else goes touch.Nothing t (moved k stage.TakeCopy (hand_of 0)) reply.Quiet
 
 unfoldable pub reads_old : Result ℕ Damaged → ℕ → Task → Act
-reads_old (Err _) t k = refused 2
+reads_old (Err _) t k = refused refusal.Damaged
 reads_old (Ok v) t k = goes touch.Nothing t (moved k stage.Append (guessed k.hand v)) reply.Quiet
 
 unfoldable pub appends_entry : ℕ → Task → Act
@@ -164,7 +164,7 @@ puts e t k = finishes (e.slot k.fresh) (touch.Fill k.target k.cell k.value) t k 
 -- ---- step
 
 unfoldable pub plan_at : Stage → Sight → ℕ → Task → Act
-plan_at stage.Idle e t k = refused 6
+plan_at stage.Idle e t k = refused refusal.Idle
 plan_at stage.TakeNew e t k = takes (free_in e) e t k stage.FillNew
 plan_at stage.FillNew e t k = fills_new e t k
 plan_at (stage.Getting r) e t k = get_goes (read_in r e k) t k
@@ -179,8 +179,8 @@ plan_at stage.Put e t k = puts e t k
 plan_at (stage.Paging r) e t k = page_goes (read_in r e k) t k
 
 unfoldable pub plan_row : Result Task Damaged → Sight → ℕ → Act
-plan_row (Err _) e t = refused 2
+plan_row (Err _) e t = refused refusal.Damaged
 plan_row (Ok k) e t = plan_at k.stage e t (ticked k)
 
 unfoldable pub plan_step : Sight → ℕ → Act
-plan_step e t = if leb e.sizes.t t then refused 4 else plan_row (e.task t) e t
+plan_step e t = if leb e.sizes.t t then refused refusal.NoTask else plan_row (e.task t) e t

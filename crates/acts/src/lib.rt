@@ -1,118 +1,113 @@
-// What a call reads of a store and does to it, as values; and the rule book's changes of tasks, slots and the get in hand.
+// What a call does to a store and answers, as values: specs/ says what each call, step and look sees, does and tells.
 #![tactic(auto)]
 
-pub mod reading;
-pub mod searches;
-pub mod starts;
-pub mod tasks;
-pub mod words;
+ghost use Rattle.std.specs.Prelude.{◌≡◌};
+ghost use Rattle.acts.specs.Plans.{after, ticked};
+ghost use Rattle.acts.specs.StepPlans.{stage_for};
 
-use rulebook::{Entry, Progress, Reply, Slot, Stage, Task};
+use rulebook::{Damaged, Entry, Reading, Stage, Task};
 
-// A row as it was read: it is bad, or it is a slot or a task.
-#[derive(Clone, Copy)]
-pub enum SlotRow {
-    Bad,
-    Row(Slot),
+/// Why a call is refused.
+#[derive(Clone, Copy, Debug, PartialEq, Eq)]
+pub enum Refusal {
+    /// 1: words 0 to 5 do not describe the pool.
+    NoPool,
+    /// 2: a number outside the pool or the layout was met.
+    Damaged,
+    /// 3: the sizes or the pool allow no store.
+    NoRoom,
+    /// 4: there is no such task.
+    NoTask,
+    /// 5: the task is busy.
+    Busy,
+    /// 6: the task is idle.
+    Idle,
+    /// 7: the handle is not live.
+    Dead,
+    /// 8: there are no such cells.
+    NoCell,
+    /// 9: no slot is free.
+    NoSlot,
+    /// 10: no block is free. The task has ended after so many steps.
+    Full(u32),
+    /// 11: a task names the handle.
+    InUse,
+    /// 12: there is no such block with a live handle, cell or entry.
+    Unseen,
 }
 
-#[derive(Clone, Copy)]
-pub enum TaskRow {
-    Bad,
-    Row(Task),
+impl From<Damaged> for Refusal {
+    ghost use Rattle.std.specs.Prelude.{◌≡◌};
+    ghost use Rattle.acts.specs.declared.Refusal.TheVariants as refusal;
+
+    ghost from_gives = { λ _ r. r ≡ refusal.Damaged };
+
+    fn from(_damaged: Damaged) -> Refusal {
+        Refusal::Damaged
+    }
 }
 
-// The stage whose code was read, or that there is none.
-#[derive(Clone, Copy)]
-pub enum StageRow {
-    Bad,
-    At(Stage),
+/// What an accepted call tells.
+#[derive(Clone, Copy, Debug, PartialEq, Eq)]
+pub enum Told {
+    /// Nothing.
+    Quiet,
+    /// open: B.
+    Opened(u32),
+    /// A page hands out a cell: cell, value.
+    Handed(u32, u32),
+    /// A page hands out its last cell and ends: steps, cell, value.
+    HandedLast(u32, u32, u32),
+    /// A get ends: steps, cell, value.
+    Got(u32, u32, u32),
+    /// A new or a set ends: steps, the new handle's public number.
+    Made(u32, u32),
+    /// A look at V, a cell or a log's length.
+    Shown(u32),
+    /// A look at an entry.
+    ShownEntry(Entry),
+    /// A look at a task.
+    ShownTask(Task),
+    /// Live handles, blocks in use.
+    Reported(u32, u32),
 }
 
-// What a search of rows has come to: a bad row, a place, or nothing yet.
-#[derive(Clone, Copy)]
-pub enum Found {
-    Bad,
-    At(u32),
-    None,
-}
-
-// What a count of rows has come to: a bad row, or a number.
-#[derive(Clone, Copy)]
-pub enum Counted {
-    Bad,
-    Of(u32),
-}
-
-// A live handle's slot, or the refusal.
-#[derive(Clone, Copy)]
-pub enum Live {
-    Not(u32),
-    On(Slot),
-}
-
-// A step of a get: a bad number was read, or it has got on.
-#[derive(Clone, Copy)]
-pub enum Read {
-    Bad,
-    Got(Progress),
-}
-
-// Who reads a cell by the steps of a get.
-#[derive(Clone, Copy)]
+/// Who reads a cell by the steps of a get.
+#[derive(Clone, Copy, Debug, PartialEq, Eq)]
 pub enum Reader {
     Get,
     Copy,
     Page,
 }
 
-// An answer as C reads it: whether all its numbers are 0, the refusal number, and its numbers in their order.
-#[derive(Clone, Copy)]
-pub struct Said {
-    pub silent: bool,
-    pub refusal: u32,
-    pub first: u32,
-    pub second: u32,
-    pub third: u32,
-    pub fourth: u32,
-    pub fifth: u32,
-    pub sixth: u32,
-    pub seventh: u32,
-    pub eighth: u32,
+impl Reader {
+    /// The stage at which it makes a reading.
+    pub fn stage(self, reading: Reading) -> Stage
+        ensures { result ≡ stage_for self reading }
+    {
+        match self {
+            Reader::Get => Stage::Getting(reading),
+            Reader::Copy => Stage::Copying(reading),
+            Reader::Page => Stage::Paging(reading),
+        }
+    }
 }
 
-// What is done to one block.
-#[derive(Clone, Copy)]
-pub enum Touch {
-    Nothing,
-    // block, L: V becomes L + 1
-    Exchange(u32, u32),
-    // block, cell, entry
-    Append(u32, u32, Entry),
-    // block, cell, value
-    Write(u32, u32, u32),
-    // block: V becomes 0
-    Take(u32),
-    // block, cell, value: the cell's log is emptied too
-    Fill(u32, u32, u32),
+/// One more, as 32 bits count.
+#[tactic(auto, unfolding(crate::specs::Plans::after))]
+pub fn after(number: u32) -> u32
+    ensures { result ≡ after number }
+{
+    number.wrapping_add(1)
 }
 
-#[derive(Clone, Copy)]
-pub enum SlotChange {
-    Same,
-    To(u32, Slot),
-}
-
-#[derive(Clone, Copy)]
-pub enum TaskChange {
-    Same,
-    To(u32, Task),
-}
-
-#[derive(Clone, Copy)]
-pub struct Act {
-    pub touch: Touch,
-    pub slot: SlotChange,
-    pub task: TaskChange,
-    pub reply: Reply,
+/// The task with one step more.
+#[tactic(auto, unfolding(crate::specs::Plans::ticked))]
+pub fn ticked(task: Task) -> Task
+    ensures { result ≡ ticked task }
+{
+    Task {
+        steps: after(task.steps),
+        ..task
+    }
 }

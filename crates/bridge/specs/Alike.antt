@@ -4,9 +4,8 @@ use Rattle.std.specs.Prelude.{◌<◌, ℕ, not, true, ◌≡◌, ltb, if◌then
 use Rattle.std.proofs.Common.{◌∙◌, leb-false, ltb-true}
 use Rattle.std.proofs.Math.Path.{ap, ap₂, refl, subst⁻¹}
 use Rattle.std.proofs.Math.Dec.{eqb, leb}
-use Rattle.acts.specs.Acts.{Act}
-use Rattle.acts.specs.Acts.{Found}
-use Rattle.acts.specs.Acts.{Touch}
+use Rattle.acts.specs.Acts.{Act, Found}
+use Rattle.acts.specs.Touch.{Touch}
 use Rattle.rulebook.specs.declared.Reading.{Reading}
 use Rattle.rulebook.specs.declared.Sizes.{Sizes}
 use Rattle.rulebook.specs.declared.Slot.{Slot}
@@ -30,12 +29,13 @@ use Rattle.bridge.specs.Shown.{Shows}
 use Rattle.rulebook.specs.declared.Stage.TheVariants as stage
 use Rattle.rulebook.specs.declared.Reading.TheVariants as reading
 use Rattle.rulebook.specs.declared.Reply.TheVariants as reply
-use Rattle.acts.specs.Acts as touch
+use Rattle.acts.specs.Touch as touch
 use Rattle.rulebook.specs.Codes.{damaged}
 use Rattle.rulebook.specs.declared.Damaged.{Damaged}
 use Rattle.rulebook.specs.declared.Entry.{Entry}
 use Rattle.rulebook.specs.declared.Progress.{Progress}
 use Rattle.acts.specs.declared.Refusal.{Refusal}
+use Rattle.acts.specs.declared.Refusal.TheVariants as refusal
 
 -- a live handle stands on the block of the handle that a task names
 pub named-on : (s : State) → Rules s → (t : ℕ) → names (task_at s t).stage ≡ true → stood s (task_at s t).block ≡ true
@@ -129,7 +129,7 @@ module _ {e : Sight} {s : State} (W : Shows e s) (sh : Shape s) where
     unfolding set_on sight_of
     set_on_lem (Err n) = refl
     set_on_lem (Ok y) =
-        ap₂ (λ (z : Sizes) (a : Act). if leb z.n i then refused 8 else a) W.sizes (ap (λ (x : Found). set_at x e y t h i v) vacant-alike ∙ set_at_lem y)
+        ap₂ (λ (z : Sizes) (a : Act). if leb z.n i then refused refusal.NoCell else a) W.sizes (ap (λ (x : Found). set_at x e y t h i v) vacant-alike ∙ set_at_lem y)
 
     pub set-alike : plan_set e t h i v ≡ plan_set (sight_of s) t h i v
     unfolding plan_set
@@ -201,6 +201,6 @@ module _ {e : Sight} {s : State} (W : Shows e s) (sh : Shape s) where
     pub step-alike : plan_step e t ≡ plan_step (sight_of s) t
     unfolding plan_step plan_row sight_of
     step-alike =
-        ap (λ (z : Sizes). if leb z.t t then refused 4 else plan_row (e.task t) e t) W.sizes ∙ by_test (leb s.sizes.t t)
+        ap (λ (z : Sizes). if leb z.t t then refused refusal.NoTask else plan_row (e.task t) e t) W.sizes ∙ by_test (leb s.sizes.t t)
         (λ q. rw q)
         (λ q. rw q (ap (λ (x : Result Task Damaged). plan_row x e t) (W.task t (leb-false _ _ q)) ∙ at-alike (task_at s t).stage refl))

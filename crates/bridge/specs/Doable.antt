@@ -7,10 +7,8 @@ use Rattle.std.proofs.Math.Dec.{eqb}
 use Rattle.std.proofs.Math.ListN.{get_or}
 use Rattle.std.proofs.Math.Seq.{get_or-set_other, get_or-set_same}
 use borrow.Author.Tests.{eqb-false, eqb-true, ltb-true}
-use Rattle.acts.specs.Acts.{Act}
-use Rattle.acts.specs.Acts.{SlotChange}
-use Rattle.acts.specs.Acts.{TaskChange}
-use Rattle.acts.specs.Acts.{Touch}
+use Rattle.acts.specs.Acts.{Act, SlotChange, TaskChange}
+use Rattle.acts.specs.Touch.{Touch}
 use Rattle.rulebook.specs.declared.Entry.{Entry}
 use Rattle.rulebook.specs.declared.Sizes.{Sizes}
 use Rattle.rulebook.specs.declared.Slot.{Slot}
@@ -19,7 +17,8 @@ use Rattle.rulebook.specs.declared.Task.{Task}
 use Rattle.acts.specs.Acted.{acted, seated, touched, turned}
 use Rattle.block.specs.Sound.{Filling, Laid}
 use Rattle.layout.specs.Acts.{Appendable, applied_acted, applied_done, applied_keeps, seated-keeps, slot_named, task_named, touched-keeps, turned-keeps}
-use Rattle.rulebook.specs.Codes.{code_of, stage_from_lem, status_code}
+use Rattle.rulebook.specs.Codes.{code_of, status_code}
+use Rattle.rulebook.proofs.Back.{stage_from_lem}
 use Rattle.layout.specs.Keeps.{Keeps, keeps-header, keeps-spans, none, slot-keeps, slot-own, task-keeps, task-own}
 use Rattle.layout.specs.Places.{Spans, block_part, slot_part, task_part}
 use Rattle.layout.specs.Pool.{InReach, applied_in, put_slot, put_task, seated_in, slot_near, task_near, touched_in, turned_in, view_of}
@@ -37,7 +36,7 @@ use Rattle.rules.specs.Rules.{Rules}
 use Rattle.bridge.specs.Asked.{Bridged}
 use Rattle.bridge.specs.Shown.{sound-shape, spans}
 use Rattle.bridge.specs.Sound.{Sound, filled_to}
-use Rattle.acts.specs.Acts as touch
+use Rattle.acts.specs.Touch as touch
 use Rattle.acts.specs.Acts as change
 use Rattle.rulebook.specs.declared.Status.TheVariants as status
 

@@ -7,8 +7,7 @@ use Rattle.std.proofs.Common.{true≢false, ◌∙◌}
 use Rattle.std.proofs.Math.Path.{ap, refl}
 use Rattle.std.proofs.Math.Dec.{eqb, leb, ltb}
 use borrow.Author.Tests.{le-leb, le-ltb, leb-false, leb-true, lt-ltb}
-use Rattle.acts.specs.Acts.{Act}
-use Rattle.acts.specs.Acts.{Found}
+use Rattle.acts.specs.Acts.{Act, Found}
 use Rattle.rulebook.specs.declared.Slot.{Slot}
 use Rattle.rulebook.specs.declared.Task.{Task}
 use Rattle.acts.specs.Acted.{acted, seated, touched, turned}
@@ -29,6 +28,7 @@ use Rattle.rulebook.specs.declared.Stage.TheVariants as stage
 use Rattle.rulebook.specs.declared.Reading.TheVariants as reading
 use Rattle.rulebook.specs.declared.Reply.TheVariants as reply
 use Rattle.acts.specs.declared.Refusal.{Refusal}
+use Rattle.acts.specs.declared.Refusal.TheVariants as refusal
 
 -- an act that a test chooses
 pub acted_if : (s : State) (b : Bool) (x y : Act) → acted s (if b then x else y) ≡ (if b then acted s x else acted s y)
@@ -106,7 +106,7 @@ module _ (s : State) (sh : Shape s) where
   unfolding placed
   placed-is R j l = let q = live_stood s R j (is_live_lem _ l) in rw (lt-ltb (slot_at s j).block s.sizes.b q.block_in_b, le-leb (slot_at s j).number s.sizes.n q.at_most_n)
 
-  live_is : Rules s → (h : ℕ) → live_in (sight_of s) h ≡ (if live_handle s h then Ok (slot_at s (slot_of h)) else Err 7)
+  live_is : Rules s → (h : ℕ) → live_in (sight_of s) h ≡ (if live_handle s h then Ok (slot_at s (slot_of h)) else Err refusal.Dead)
   unfolding live_in live_row sight_of live_handle
   live_is R h =
       by_test (leb s.sizes.h (slot_of h))
@@ -129,7 +129,7 @@ module _ (s : State) (sh : Shape s) where
     unfolding plan_get start_get get_on sight_of begun acted touched seated turned
     planned_get R = start_or t _ _ (ap (λ (x : Result Slot Refusal). acted s (get_on x (sight_of s) t h i)) (live_is R h) ∙ on (live_handle s h))
       where
-        on : (b : Bool) → acted s (get_on (if b then Ok (slot_at s (slot_of h)) else Err 7) (sight_of s) t h i) ≡ (if not b then (s, reply.Refused 7) else if leb s.sizes.n i then (s, reply.Refused 8) else (with_task s t (begun s h (stage.Getting reading.Guess) i 0 0 0), reply.Quiet))
+        on : (b : Bool) → acted s (get_on (if b then Ok (slot_at s (slot_of h)) else Err refusal.Dead) (sight_of s) t h i) ≡ (if not b then (s, reply.Refused 7) else if leb s.sizes.n i then (s, reply.Refused 8) else (with_task s t (begun s h (stage.Getting reading.Guess) i 0 0 0), reply.Quiet))
         on false = refl
         on true = refuse_or s (leb s.sizes.n i) 8 _ _ (λ _. refl)
 
@@ -137,12 +137,12 @@ module _ (s : State) (sh : Shape s) where
     unfolding plan_page start_page page_on sight_of begun acted touched seated turned
     planned_page R = start_or t _ _ (ap (λ (x : Result Slot Refusal). acted s (page_on x (sight_of s) t h i v)) (live_is R h) ∙ on (live_handle s h))
       where
-        on : (b : Bool) → acted s (page_on (if b then Ok (slot_at s (slot_of h)) else Err 7) (sight_of s) t h i v) ≡ (if not b then (s, reply.Refused 7) else if eqb v 0 || ltb s.sizes.n (i + v) then (s, reply.Refused 8) else (with_task s t (begun s h (stage.Paging reading.Guess) i 0 (i + v) 0), reply.Quiet))
+        on : (b : Bool) → acted s (page_on (if b then Ok (slot_at s (slot_of h)) else Err refusal.Dead) (sight_of s) t h i v) ≡ (if not b then (s, reply.Refused 7) else if eqb v 0 || ltb s.sizes.n (i + v) then (s, reply.Refused 8) else (with_task s t (begun s h (stage.Paging reading.Guess) i 0 (i + v) 0), reply.Quiet))
         on false = refl
         on true = refuse_or s (eqb v 0 || ltb s.sizes.n (i + v)) 8 _ _ (λ _. refl)
 
     -- a slot is reserved, or there is none
-    reserve_or : (k : ℕ → Task) (f : Found → Act) → f (Ok None) ≡ refused 9 → ((j : ℕ) → f (Ok (Some j)) ≡ reserves_for ((sight_of s).slot j) j t (k j))
+    reserve_or : (k : ℕ → Task) (f : Found → Act) → f (Ok None) ≡ refused refusal.NoSlot → ((j : ℕ) → f (Ok (Some j)) ≡ reserves_for ((sight_of s).slot j) j t (k j))
         → acted s (f (vacant_in (sight_of s))) ≡ (if no_slot s then (s, reply.Refused 9) else (with_task (reserve s) t (k (free_slot s)), reply.Quiet))
     unfolding reserves_for sight_of reserve acted touched seated turned
     reserve_or k f absent present =
@@ -158,7 +158,7 @@ module _ (s : State) (sh : Shape s) where
     unfolding plan_set start_set set_on set_at begun sight_of
     planned_set R = start_or t _ _ (ap (λ (x : Result Slot Refusal). acted s (set_on x (sight_of s) t h i v)) (live_is R h) ∙ on (live_handle s h))
       where
-        on : (b : Bool) → acted s (set_on (if b then Ok (slot_at s (slot_of h)) else Err 7) (sight_of s) t h i v)
+        on : (b : Bool) → acted s (set_on (if b then Ok (slot_at s (slot_of h)) else Err refusal.Dead) (sight_of s) t h i v)
             ≡ (if not b then (s, reply.Refused 7) else if leb s.sizes.n i then (s, reply.Refused 8) else if no_slot s then (s, reply.Refused 9) else (with_task (reserve s) t (begun s h stage.Exchange i v 0 (free_slot s)), reply.Quiet))
         on false = acted-refused s 7
         on true = refuse_or s (leb s.sizes.n i) 8 _ _ (λ _. reserve_or (λ (j : ℕ). begun s h stage.Exchange i v 0 j) (λ (x : Found). set_at x (sight_of s) (slot_at s (slot_of h)) t h i v) refl (λ j. refl))
@@ -167,7 +167,7 @@ module _ (s : State) (sh : Shape s) where
   unfolding plan_release release release_on release_at acted touched seated turned
   planned_release R h = ap (λ (x : Result Slot Refusal). acted s (release_on x (sight_of s) h)) (live_is R h) ∙ on (live_handle s h)
     where
-      on : (b : Bool) → acted s (release_on (if b then Ok (slot_at s (slot_of h)) else Err 7) (sight_of s) h)
+      on : (b : Bool) → acted s (release_on (if b then Ok (slot_at s (slot_of h)) else Err refusal.Dead) (sight_of s) h)
           ≡ (if not b then (s, reply.Refused 7) else if in_use s (slot_of h) then (s, reply.Refused 11) else (with_slot s (slot_of h) (freed (slot_at s (slot_of h)).serial), reply.Quiet))
       on false = refl
       on true =

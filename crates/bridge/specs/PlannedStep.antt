@@ -5,7 +5,7 @@ use Rattle.std.proofs.Common.{◌∙◌, subst}
 use Rattle.std.proofs.Math.Path.{ap, refl}
 use borrow.Author.Tests.{le-ltb, leb-false, leb-true, lt-leb, lt-ltb}
 use Rattle.acts.specs.Acts.{Found}
-use Rattle.acts.specs.Acts.{Touch}
+use Rattle.acts.specs.Touch.{Touch}
 use Rattle.rulebook.specs.declared.Hand.{Hand}
 use Rattle.rulebook.specs.declared.Progress.{Progress}
 use Rattle.rulebook.specs.declared.Reading.{Reading}
@@ -23,12 +23,13 @@ use Rattle.rulebook.specs.Tests.{by_test, if_case}
 use Rattle.theorems.specs.Invariant.Shape.{Shape}
 use Rattle.theorems.specs.Prices.Digits.{Unsettled}
 use Rattle.bridge.specs.Planned.{acted_if, acted-refused, free_is}
-use Rattle.acts.specs.Acts as touch
+use Rattle.acts.specs.Touch as touch
 use Rattle.rulebook.specs.declared.Stage.TheVariants as stage
 use Rattle.rulebook.specs.declared.Reading.TheVariants as reading
 use Rattle.rulebook.specs.declared.Progress.TheVariants as progress
 use Rattle.rulebook.specs.declared.Reply.TheVariants as reply
 use Rattle.rulebook.specs.declared.Damaged.{Damaged}
+use Rattle.acts.specs.declared.Refusal.TheVariants as refusal
 
 -- what a step asks of its task beyond what it reads
 abbrev pub Searching : Stage → Hand → Type 0
@@ -189,7 +190,7 @@ module _ (s : State) (sh : Shape s) (t : ℕ) where
   pub planned_step : Steady s (task_at s t) → acted s (plan_step (sight_of s) t) ≡ step s t
   unfolding plan_step plan_row step sight_of
   planned_step h =
-      acted_if s (leb s.sizes.t t) (refused 4) _ ∙ by_test (leb s.sizes.t t)
+      acted_if s (leb s.sizes.t t) (refused refusal.NoTask) _ ∙ by_test (leb s.sizes.t t)
       (λ e. rw e (acted-refused s 4))
       (λ e. rw e (ap (λ (k : Task). acted s (plan_at (task_at s t).stage (sight_of s) t k)) (ticked-is (task_at s t) h.small.steps) ∙ at))
     where

@@ -6,10 +6,7 @@ use Rattle.std.proofs.Common.{true≢false, ◌∙◌, sym, arith}
 use Rattle.std.proofs.Math.Path.{◌≡◌, refl, subst⁻¹}
 use Rattle.std.proofs.Math.Dec.{eqb, leb, ltb}
 use borrow.Author.Tests.{leb-false, lt-ltb}
-use Rattle.acts.specs.Acts.{Act}
-use Rattle.acts.specs.Acts.{Found}
-use Rattle.acts.specs.Acts.{SlotChange}
-use Rattle.acts.specs.Acts.{TaskChange}
+use Rattle.acts.specs.Acts.{Act, Found, SlotChange, TaskChange}
 use Rattle.rulebook.specs.declared.Reply.{Reply}
 use Rattle.rulebook.specs.declared.Sizes.{Sizes}
 use Rattle.rulebook.specs.declared.Slot.{Slot}
@@ -32,7 +29,7 @@ use Rattle.bridge.specs.Doable.{Doable, Seats, Turns, bridged_act, no-append}
 use Rattle.bridge.specs.Planned.{planned_get, planned_new, planned_page, planned_release, planned_set}
 use Rattle.bridge.specs.Shown.{Shows, sight-shows, sound-shape}
 use Rattle.bridge.specs.Sound.{Sound}
-use Rattle.acts.specs.Acts as touch
+use Rattle.acts.specs.Touch as touch
 use Rattle.acts.specs.Acts as change
 use Rattle.acts.specs.declared.Refusal.{Refusal}
 

@@ -35,7 +35,7 @@ use Rattle.bridge.specs.Starting.{answers_act, called, ends_act, goes_act, quiet
 use Rattle.bridge.specs.Touching.{append-touches, exchange-touches, write-touches}
 use Rattle.bridge.specs.Working.{fill-ends, fill_on, filled_so, filled-whole, finish_act, in_place, named-laid, near-fresh, near-t, took_act}
 use Rattle.acts.specs.Acts as change
-use Rattle.acts.specs.Acts as touch
+use Rattle.acts.specs.Touch as touch
 use Rattle.rulebook.specs.declared.Progress.TheVariants as progress
 use Rattle.rulebook.specs.declared.Reading.TheVariants as reading
 use Rattle.rulebook.specs.declared.Stage.TheVariants as stage

@@ -6,7 +6,7 @@ use mathlib.Core.List.{List}
 use Rattle.std.proofs.Common.{◌∙◌, sym, lt-ltb}
 use Rattle.std.proofs.Math.Path.{◌≡◌, ap, refl}
 use native.Mathlib.Omega.{arith}
-use Rattle.acts.specs.Acts.{Touch}
+use Rattle.acts.specs.Touch.{Touch}
 use Rattle.rulebook.specs.declared.Entry.{Entry}
 use Rattle.rulebook.specs.declared.Sizes.{Sizes}
 use Rattle.block.proofs.Appends.{append-done}
@@ -24,7 +24,7 @@ use Rattle.rulebook.specs.State.{Block, block_at, log_at}
 use Rattle.theorems.specs.Prices.Budget.{passed, passed-next, passed_total, sum_to}
 use Rattle.bridge.specs.Doable.{no-append, words_after}
 use Rattle.theorems.specs.Terms.{entries}
-use Rattle.acts.specs.Acts as touch
+use Rattle.acts.specs.Touch as touch
 use Rattle.block.specs.Sound as blocks
 
 -- a touch that is done on block b, which then has the words z

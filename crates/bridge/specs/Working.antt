@@ -6,9 +6,8 @@ use Rattle.std.proofs.Common.{true≢false, ◌∙◌, ap, subst, sym}
 use mathlib.Core.List.{List}
 use Rattle.std.proofs.Math.Path.{refl, subst⁻¹, subst₂}
 use borrow.Author.Tests.{eqb-false, eqb-true, lt-ltb, ne_eqb}
-use Rattle.acts.specs.Acts.{SlotChange}
-use Rattle.acts.specs.Acts.{TaskChange}
-use Rattle.acts.specs.Acts.{Touch}
+use Rattle.acts.specs.Acts.{SlotChange, TaskChange}
+use Rattle.acts.specs.Touch.{Touch}
 use Rattle.rulebook.specs.declared.Reply.{Reply}
 use Rattle.rulebook.specs.declared.Sizes.{Sizes}
 use Rattle.rulebook.specs.declared.Slot.{Slot}
@@ -38,7 +37,7 @@ use Rattle.bridge.specs.Sound.{Sound, filled_to}
 use Rattle.bridge.specs.Starting.{answers_act}
 use Rattle.bridge.specs.Touching.{Touches, fill-touches, take-touches}
 use Rattle.acts.specs.Acts as change
-use Rattle.acts.specs.Acts as touch
+use Rattle.acts.specs.Touch as touch
 use Rattle.rulebook.specs.declared.Status.TheVariants as status
 use Rattle.rulebook.specs.declared.Reply.TheVariants as reply
 

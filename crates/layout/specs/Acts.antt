@@ -1,6 +1,6 @@
 -- What doing an act leaves: the machine's state that the act leads to; and all that it does not name, as it was.
 -- Rests on View, Does and the block's laws.
-use Rattle.std.specs.Prelude.{ℕ, ◌+◌, ◌≤◌, ◌<◌, ◌≡◌, Bool, true, false, List, [], ◌∷◌, ◌++◌, length, leb, eqb, Option}
+use Rattle.std.specs.Prelude.{ℕ, ◌+◌, ◌≤◌, ◌<◌, ◌≡◌, Bool, true, false, List, [], ◌∷◌, ◌++◌, length, leb, eqb, Option, None, Some}
 use Rattle.std.proofs.Math.Path.{refl, ap}
 use Rattle.std.proofs.Common.{sym, ◌∙◌}
 use Rattle.std.proofs.lemmas.Bool.{false≢true}
@@ -21,18 +21,17 @@ use Rattle.block.proofs.Appends.{append-done}
 use Rattle.block.proofs.Plans.{room_planned}
 use Rattle.acts.specs.Plans.{answers}
 use Rattle.acts.specs.Acted.{touched, seated, turned, acted}
-use Rattle.acts.specs.Acts.{Touch}
-use Rattle.acts.specs.Acts as touch
-use Rattle.acts.specs.Acts.{SlotChange}
+use Rattle.acts.specs.Touch.{Touch}
+use Rattle.acts.specs.Touch as touch
+use Rattle.acts.specs.Acts.{Act, SlotChange, TaskChange}
 use Rattle.acts.specs.Acts as change
-use Rattle.acts.specs.Acts.{TaskChange}
-use Rattle.acts.specs.Acts.{Act}
 use Rattle.layout.specs.Places.{block_part, Spans}
 use Rattle.layout.specs.Pool.{view_of, put_block, raised, put_done, touched_in, touched_near, seated_in, turned_in, acted_in, applied_in, touch_near, slot_near, task_near, InReach}
 use Rattle.layout.specs.Keeps.{none, only, Keeps, keeps-spans, keeps-all, keeps-both, slots-alone, tasks-alone, blocks-alone, slot-keeps, task-keeps, block-own, block-keeps, block-length, block-sized}
 use Rattle.layout.specs.Does.{done-near, touched_far, touched_near_lem}
 use Rattle.layout.specs.View.{view_block_at, view_slot, view_task, view_block}
 use Rattle.block.specs.declared.change.Spot.{Spot}
+use Rattle.acts.specs.declared.Refusal.TheVariants as refusal
 
 -- the touched block has the words that its touch has left
 pub done-own : {d : Sizes} {p : List ℕ} → Spans d p → (k : ℕ) → k < d.b → (z : List ℕ × Bool) → length z.0 ≡ length (block_part p d k) → block_part (put_done p d k z).0 d k ≡ z.0
@@ -112,8 +111,8 @@ module _ (n : ℕ) (w : List ℕ) where
 
   append_at-cell : (r : Option Spot) (i v o : ℕ) → room_in n w i ≡ r → (append_at r n w i v o).1 ≡ true → i < n
   unfolding append_at
-  append_at-cell (room.At s) i v o e h = (room_planned n w i s e).1.cell
-  append_at-cell room.Full i v o e h = absurd (false≢true h)
+  append_at-cell (Some s) i v o e h = (room_planned n w i s e).1.cell
+  append_at-cell None i v o e h = absurd (false≢true h)
 
   append-cell : (i v o : ℕ) → (append_in n w i v o).1 ≡ true → i < n
   unfolding append_in
@@ -173,7 +172,7 @@ module _ (p : List ℕ) (d : Sizes) where
   unfolding applied_in acted_in touched_in touched_near touch_near seated_in turned_in
   applied_answers r = refl
 
-  -- refused 2: no word changes
+  -- refused refusal.Damaged: no word changes
   pub applied_not : (a : Act) → (touched_in p d a.touch).1 ≡ false → applied_in p d a ≡ (p, reply.Refused 2)
   unfolding applied_in acted_in
   applied_not a e = ap (λ (x : Bool). acted_in x (touched_in p d a.touch).0 p d a) e

@@ -1,14 +1,14 @@
 -- What is not done changes nothing.
 -- Rests on Pool.
-use Rattle.std.specs.Prelude.{ℕ, ◌≡◌, true, false, List, leb, eqb, Option}
+use Rattle.std.specs.Prelude.{ℕ, ◌≡◌, true, false, List, leb, eqb, Option, None, Some}
 use Rattle.std.proofs.Math.Path.{refl}
 use Rattle.std.proofs.Common.{sym, true≢false}
 use Rattle.rulebook.specs.declared.Sizes.{Sizes}
 use Rattle.rulebook.specs.Tests.{by_test}
 use Rattle.block.specs.Layout.{version_of, is_block, has_cell}
 use Rattle.block.specs.Words.{exchange_in, write_in, take_in, fill_in, room_in, append_at, append_in}
-use Rattle.acts.specs.Acts.{Touch}
-use Rattle.acts.specs.Acts as touch
+use Rattle.acts.specs.Touch.{Touch}
+use Rattle.acts.specs.Touch as touch
 use Rattle.layout.specs.Parts.{splice-same}
 use Rattle.layout.specs.Places.{block_part}
 use Rattle.layout.specs.Pool.{put_block, raised, put_done, touch_near, touched_in, touched_near}
@@ -28,8 +28,8 @@ module _ (n : ℕ) (w : List ℕ) where
 
   append_at_not : (r : Option Spot) (i v o : ℕ) → (append_at r n w i v o).1 ≡ false → (append_at r n w i v o).0 ≡ w
   unfolding append_at
-  append_at_not (room.At s) i v o h = absurd (true≢false h)
-  append_at_not room.Full i v o h = refl
+  append_at_not (Some s) i v o h = absurd (true≢false h)
+  append_at_not None i v o h = refl
 
   pub append_not : (i v o : ℕ) → (append_in n w i v o).1 ≡ false → (append_in n w i v o).0 ≡ w
   unfolding append_in

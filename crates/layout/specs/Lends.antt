@@ -15,8 +15,8 @@ use Rattle.rulebook.specs.declared.Entry.{Entry}
 use Rattle.rulebook.specs.declared.Slot.{Slot}
 use Rattle.rulebook.specs.declared.Task.{Task}
 use Rattle.block.specs.Words.{version_in, cell_in, length_in, entry_in, exchange_in, append_in, write_in, take_in, fill_in}
-use Rattle.acts.specs.Acts.{Touch}
-use Rattle.acts.specs.Acts as touch
+use Rattle.acts.specs.Touch.{Touch}
+use Rattle.acts.specs.Touch as touch
 use Rattle.layout.specs.Parts.{part, splice}
 use Rattle.layout.specs.Rows.{slot_words, task_words, task_fields}
 use Rattle.layout.specs.Places.{slot_start, task_start, block_start, task_part, block_part, Spans, Small, Place}

@@ -1,11 +1,8 @@
-use Rattle.std.specs.Prelude.{Option}
 use Rattle.rulebook.specs.declared.Sizes.{Sizes}
 pub mod Parts
-pub mod Codes
-pub mod Coding
 pub mod Rows
 pub mod Places
-pub mod Option Sizes
+pub mod Header
 pub mod Pool
 pub mod Sizing
 pub mod Ways

@@ -23,13 +23,14 @@ use Rattle.layout.specs.Sizing.{Openable, opens_says, described-header}
 use Rattle.layout.specs.Pool.{view_of, control_of, open_under, open_in, lie_of}
 use Rattle.layout.specs.Lends.{row_ends}
 use Rattle.layout.specs.Ranges.{slot-zero, task-zero}
+use Rattle.acts.specs.declared.Refusal.TheVariants as refusal
 
 pub list_to_replicate : {A : Type 0} (n : ℕ) (a : A) → list_to n (λ (i : ℕ). a) ≡ replicate n a
 unfolding list_to
 list_to_replicate zero a = refl
 list_to_replicate {A} (suc n) a = ap (λ (l : List A). a ∷ l) (list_to_replicate n a)
 
--- refused 3: no word changes
+-- refused refusal.NoRoom: no word changes
 pub open_not : (p : List ℕ) (n h t : ℕ) → opens n h t (length p) ≡ false → open_in p n h t ≡ (p, reply.Refused 3)
 unfolding open_in open_under sizes_in
 open_not p n h t e = rw e

@@ -1,5 +1,5 @@
 -- What the words of a pool show, and what each function does to them, for every content.
--- Rests on Rows, Places, Option Sizes, and on the block's definitions.
+-- Rests on Rows, Places, Header, and on the block's definitions.
 use Rattle.std.specs.Prelude.{ℕ, ◌-◌, ◌≡◌, Bool, true, false, List, ◌++◌, length, drop, replicate, ltb, if◌then◌else◌, Err, None, Ok, Option, Result, Some}
 use Rattle.rulebook.specs.Sizes.{header_words, handle_row, task_row, control_words, block_words}
 use Rattle.rulebook.specs.State.{State, list_to}
@@ -13,12 +13,10 @@ use Rattle.block.specs.Layout.{version_of, cell_of}
 use Rattle.block.specs.Words.{version_in, cell_in, length_in, entry_in, exchange_in, append_in, write_in, take_in, fill_in}
 use Rattle.block.specs.Sound as sound
 use Rattle.acts.specs.Sight.{Sight}
-use Rattle.acts.specs.Acts.{Touch}
-use Rattle.acts.specs.Acts as touch
-use Rattle.acts.specs.Acts.{SlotChange}
+use Rattle.acts.specs.Touch.{Touch}
+use Rattle.acts.specs.Touch as touch
+use Rattle.acts.specs.Acts.{Act, SlotChange, TaskChange}
 use Rattle.acts.specs.Acts as change
-use Rattle.acts.specs.Acts.{TaskChange}
-use Rattle.acts.specs.Acts.{Act}
 use Rattle.layout.specs.Parts.{splice, put_row}
 use Rattle.layout.specs.Rows.{slot_words, slot_read, slot_row_of, slot_seen_of, task_fields, task_words, task_read, task_row_of, task_seen_of}
 use Rattle.layout.specs.Places.{task_base, block_base, slot_part, task_part, block_part}

@@ -9,7 +9,8 @@ use Rattle.rulebook.specs.State.{freed, idle}
 use Rattle.rulebook.specs.declared.Sizes.{Sizes}
 use Rattle.rulebook.specs.declared.Slot.{Slot}
 use Rattle.rulebook.specs.declared.Task.{Task}
-use Rattle.rulebook.specs.Codes.{stage_of, stage_from, is_code, status_from, stage_from_lem, status_from_lem}
+use Rattle.rulebook.specs.Codes.{stage_of, stage_from, is_code, status_from}
+use Rattle.rulebook.proofs.Back.{stage_from_lem, status_from_lem}
 use Rattle.layout.specs.Rows.{slot_words, slot_read, slot_fits, slot_row_of, bit_of, task_words, task_read, stands_in, works_in, task_fits, task_row_of, Ranged}
 use Rattle.rulebook.specs.Codes.{damaged}
 

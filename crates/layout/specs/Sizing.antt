@@ -1,5 +1,5 @@
 -- What the sizes of a store and the header say of each other and of the pool.
--- Rests on Option Sizes and Places.
+-- Rests on Header and Places.
 use Rattle.std.specs.Prelude.{ℕ, ◌+◌, ◌-◌, ◌*◌, ◌/◌, ◌≤◌, ◌<◌, min, ◌≡◌, refl, true, ◌&&◌, List, length, get_or, ltb, leb, eqb, None, Some, false}
 use Rattle.std.proofs.Common.{sym, ap, ◌∙◌, subst, le_trans, mul-le-mul_left, le-div_iff_mul-le, div-lt_iff_lt-mul, arith, ltb-true, ltb-false, leb-true, eqb-true, le-leb, eq-eqb}
 use Rattle.std.proofs.Math.Nat.{min-eq_left, min-eq_right, min-le_left, min-le_right, le-min, mul-div-le}

@@ -1,5 +1,5 @@
 -- What each way out of a function on the header or on a row owes, with the premises as the code's tests and calls give them: rules for the
--- proofs of the functions. Rests on Option Sizes and Rows.
+-- proofs of the functions. Rests on Header and Rows.
 use Prim.Native.Nat.{ℕ, ◌+◌, ◌-◌, ◌/◌, ◌≤◌, ◌<◌, min}
 use Rattle.std.proofs.Math.Path.{◌≡◌, refl, sym, ap, ap₂}
 use Rattle.std.proofs.Common.{◌∙◌, arith, drop_of_length-le}
@@ -118,7 +118,7 @@ module _ (d : Sizes) (w : List ℕ) where
       unfolding task_row_of task_fits stage_coded
       stage_is r p q g = g ∙ by_test (is_code (get_or w 0 0)) (λ o. rw (o, ← e, not-false x p, ← f, not-false y q) read_stage) (λ o. rw o)
         where
-          read_stage : Ok (stage_from (get_or w 0 0)) ≡ Ok (task_read w).stage
+          read_stage : ◌≡◌ {A = Result Stage Damaged} (Ok (stage_from (get_or w 0 0))) (Ok (task_read w).stage)
           read_stage = unfold task_read in refl
 
   module _ (x : Result Stage Damaged) (e : x ≡ stage_seen (task_row_of d w)) where

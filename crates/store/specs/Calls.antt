@@ -5,8 +5,7 @@ use Rattle.std.proofs.Common.{◌∙◌}
 use Rattle.std.proofs.Math.Path.{ap, ap₂, refl, sym}
 use Rattle.std.proofs.Math.Dec.{leb}
 use borrow.Author.Tests.{le-leb, lt-leb, ne_eqb}
-use Rattle.acts.specs.Acts.{Act}
-use Rattle.acts.specs.Acts.{Found}
+use Rattle.acts.specs.Acts.{Act, Found}
 use Rattle.rulebook.specs.declared.Reply.{Reply}
 use Rattle.rulebook.specs.declared.Sizes.{Sizes}
 use Rattle.acts.specs.Looks.{count_of, lives_at, reports, sees_cell, sees_entry, sees_log, sees_report, sees_row, sees_task, sees_under, sees_version, shows, shows_entry, unseen, unseen_in}

@@ -14,16 +14,17 @@ use Rattle.rulebook.specs.Tests.{by_test}
 use Rattle.rulebook.specs.Codes.{damaged}
 use Rattle.rulebook.specs.declared.Damaged.{Damaged}
 use Rattle.acts.specs.declared.Refusal.{Refusal}
+use Rattle.acts.specs.declared.Refusal.TheVariants as refusal
 
 -- ---- its block and its number
 
 module _ (d : Sizes) (x : Slot) (b : Bool) (e : b ≡ ltb x.block d.b) where
-  pub place_none : not b ≡ true → Err 2 ≡ placed d x
+  pub place_none : not b ≡ true → Err refusal.Damaged ≡ placed d x
   unfolding placed
   place_none q = rw (← e, not-true b q)
 
   module _ (q : not b ≡ false) where
-    pub place-above : d.n < x.number → Err 2 ≡ placed d x
+    pub place-above : d.n < x.number → Err refusal.Damaged ≡ placed d x
     unfolding placed
     place-above l = rw (← e, not-false b q, lt-leb x.number d.n l)
 
@@ -34,17 +35,17 @@ module _ (d : Sizes) (x : Slot) (b : Bool) (e : b ≡ ltb x.block d.b) where
 -- ---- its slot
 
 module _ (p : List ℕ) (d : Sizes) (h : ℕ) where
-  pub live_none : d.h ≤ slot_of h → Err 7 ≡ live_in (sight p d) h
+  pub live_none : d.h ≤ slot_of h → Err refusal.Dead ≡ live_in (sight p d) h
   unfolding live_in sight
   live_none l = rw (le-leb d.h (slot_of h) l)
 
   module _ (l : slot_of h < d.h) (x : Result Slot Damaged) (e : x ≡ slot_seen p d (slot_of h)) where
-    pub live_bad : x ≡ Err damaged → Err 2 ≡ live_in (sight p d) h
+    pub live_bad : x ≡ Err damaged → Err refusal.Damaged ≡ live_in (sight p d) h
     unfolding live_in live_row sight
     live_bad f = rw (lt-leb d.h (slot_of h) l, ← e, f)
 
     module _ (y : Slot) (f : x ≡ Ok y) (b : Bool) (g : b ≡ (is_live y.status && eqb y.serial (serial_of h))) where
-      pub live_other : not b ≡ true → Err 7 ≡ live_in (sight p d) h
+      pub live_other : not b ≡ true → Err refusal.Dead ≡ live_in (sight p d) h
       unfolding live_in live_row sight
       live_other q = rw (lt-leb d.h (slot_of h) l, ← e, f, ← g, not-true b q)
 
@@ -57,7 +58,7 @@ module _ (p : List ℕ) (d : Sizes) (h : ℕ) where
   unfolding live_in sight
   live_there r y e f =
       by_test (leb d.h (slot_of h))
-      (λ b. let q : Ok y ≡ Err 7 = sym f ∙ e ∙ rw b in let z : ◌≡◌ {A = ℕ} 0 1 = cc in absurd (omega arith))
+      (λ b. let q : Ok y ≡ Err refusal.Dead = sym f ∙ e ∙ rw b in let z : ◌≡◌ {A = ℕ} 0 1 = cc in absurd (omega arith))
       (λ b. leb-false d.h (slot_of h) b)
 
 pub ruleset named = (place_none, place-above, place-there, live_none, live_bad, live_other, live_placed)

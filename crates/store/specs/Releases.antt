@@ -15,13 +15,14 @@ use Rattle.rulebook.specs.Sizes.{serial_of, slot_of}
 use Rattle.rulebook.specs.State.{freed, is_live}
 use Rattle.rulebook.specs.Tests.{by_test}
 use Rattle.acts.specs.Acts as change
-use Rattle.acts.specs.Acts as touch
+use Rattle.acts.specs.Touch as touch
 use Rattle.rulebook.specs.declared.Reply.TheVariants as reply
 use Rattle.store.specs.Named.{live_there}
 use Rattle.store.specs.Started.{does, refuses}
 use Rattle.rulebook.specs.declared.Damaged.{Damaged}
 use Rattle.acts.specs.declared.Refusal.{Refusal}
 use Rattle.rulebook.specs.declared.Reply.{Reply}
+use Rattle.acts.specs.declared.Refusal.TheVariants as refusal
 
 -- ---- a release
 
@@ -51,7 +52,7 @@ module _ (p : List ℕ) (d : Sizes) where
     not_placed x m e z =
         by_test (ltb x.block d.b && leb x.number d.n)
         (λ b. let q : Err m ≡ Ok x = (rw b at e) in let u : ◌≡◌ {A = ℕ} 0 1 = cc in omega arith)
-        (λ b. let q : Err m ≡ Err 2 = (rw b at e) in let u : m ≡ 2 = cc in omega arith)
+        (λ b. let q : Err m ≡ Err refusal.Damaged = (rw b at e) in let u : m ≡ 2 = cc in omega arith)
 
     row-not_live : (y : Result Slot Damaged) (m : ℕ) → Err m ≡ live_row d y h → m ≡ 0 → ⊥
     unfolding live_row
@@ -59,14 +60,14 @@ module _ (p : List ℕ) (d : Sizes) where
     row-not_live (Ok x) m e z =
         by_test (is_live x.status && eqb x.serial (serial_of h))
         (λ b. not_placed x m (rw b at e) z)
-        (λ b. let q : Err m ≡ Err 7 = (rw b at e) in let u : m ≡ 7 = cc in omega arith)
+        (λ b. let q : Err m ≡ Err refusal.Dead = (rw b at e) in let u : m ≡ 7 = cc in omega arith)
 
     -- a handle that is not live is refused by a number
     not_live : (m : ℕ) → Err m ≡ live_in (sight p d) h → m ≡ 0 → ⊥
     unfolding live_in sight
     not_live m e z =
         by_test (leb d.h (slot_of h))
-        (λ b. let q : Err m ≡ Err 7 = (rw b at e) in let u : m ≡ 7 = cc in omega arith)
+        (λ b. let q : Err m ≡ Err refusal.Dead = (rw b at e) in let u : m ≡ 7 = cc in omega arith)
         (λ b. row-not_live (slot_seen p d (slot_of h)) m (rw b at e) z)
 
     module _ (x : Result Slot Refusal) (q : List ℕ) where

@@ -7,8 +7,7 @@ use Rattle.std.proofs.Math.Path.{ap, sym}
 use native.Mathlib.Omega.{arith}
 use Rattle.std.proofs.Math.Dec.{eqb, leb}
 use borrow.Author.Tests.{eq-eqb, eqb-true, le-leb, le-ltb, leb-false, lt-leb, lt-ltb, ne_eqb}
-use Rattle.acts.specs.Acts.{Act}
-use Rattle.acts.specs.Acts.{Found}
+use Rattle.acts.specs.Acts.{Act, Found}
 use Rattle.rulebook.specs.declared.Sizes.{Sizes}
 use Rattle.rulebook.specs.declared.Slot.{Slot}
 use Rattle.rulebook.specs.declared.Stage.{Stage}
@@ -25,7 +24,7 @@ use Rattle.rulebook.specs.Tests.{by_test}
 use Rattle.work.specs.Asked.{FoundBelow}
 use Rattle.work.specs.Reach.{vacant-below}
 use Rattle.work.specs.Stepped.{does-goes, does-refused, does-seats}
-use Rattle.acts.specs.Acts as touch
+use Rattle.acts.specs.Touch as touch
 use Rattle.rulebook.specs.declared.Reading.TheVariants as reading
 use Rattle.rulebook.specs.declared.Reply.TheVariants as reply
 use Rattle.rulebook.specs.declared.Stage.TheVariants as stage
@@ -33,6 +32,7 @@ use Rattle.rulebook.specs.Codes.{damaged}
 use Rattle.rulebook.specs.declared.Damaged.{Damaged}
 use Rattle.acts.specs.declared.Refusal.{Refusal}
 use Rattle.rulebook.specs.declared.Reply.{Reply}
+use Rattle.acts.specs.declared.Refusal.TheVariants as refusal
 
 -- only the idle stage has the code 0
 busy_unless : (g : Stage) → (code_of g ≡ 0 → ⊥) → busy g ≡ true
@@ -173,7 +173,7 @@ module _ (p : List ℕ) (d : Sizes) where
       unfolding set_on
       set-starts q l g = g ∙ ap does (there (set_at (vacant_in (sight p d)) (sight p d) x t h i v))
         where
-          there : (a : Act) → a ≡ (if leb (sight p d).sizes.n i then refused 8 else a)
+          there : (a : Act) → a ≡ (if leb (sight p d).sizes.n i then refused refusal.NoCell else a)
           there a = unfold sight in rw (lt-leb d.n i l)
 
       pub page-none : v ≡ 0 → s ≡ reply.Refused 8 → (p, s) ≡ does (page_on (Ok x) (sight p d) t h i v)
@@ -184,7 +184,7 @@ module _ (p : List ℕ) (d : Sizes) where
       unfolding page_on sight
       page-beyond l g = refuses 8 s _ g (sym (page_if (ltb d.n (i + v)) _ (lt-ltb d.n (i + v) l)))
         where
-          page_if : (b : Bool) (z : Act) → b ≡ true → (if eqb v 0 || b then refused 8 else z) ≡ refused 8
+          page_if : (b : Bool) (z : Act) → b ≡ true → (if eqb v 0 || b then refused refusal.NoCell else z) ≡ refused refusal.NoCell
           page_if b z e = by_test (eqb v 0) (λ o. rw o) (λ o. rw (o, e))
 
       pub page_large : d.n < v → s ≡ reply.Refused 8 → (p, s) ≡ does (page_on (Ok x) (sight p d) t h i v)

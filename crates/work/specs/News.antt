@@ -19,7 +19,7 @@ use Rattle.rulebook.specs.State.{hand_of}
 use Rattle.rulebook.specs.Steps.{aimed, moved}
 use Rattle.work.specs.Stepped.{Held, aimed_at, does, does-refused, filled_last, filled_next, filling, given_up, held-left, last_cell, more_cells, step_at, taken_at, task_up, took_at, turned_to}
 use Rattle.work.specs.Works.{gone-does, refused-does, turned-does}
-use Rattle.acts.specs.Acts as touch
+use Rattle.acts.specs.Touch as touch
 use Rattle.rulebook.specs.declared.Reply.TheVariants as reply
 use Rattle.rulebook.specs.declared.Stage.TheVariants as stage
 use Rattle.rulebook.specs.Codes.{damaged}

@@ -5,9 +5,8 @@ use Rattle.std.proofs.Common.{true≢false, arith}
 use Rattle.std.proofs.Math.Path.{◌≡◌, refl}
 use Rattle.std.proofs.Math.Dec.{ltb}
 use borrow.Author.Tests.{leb-false, lt-ltb, ltb-true}
-use Rattle.acts.specs.Acts.{Act}
-use Rattle.acts.specs.Acts.{Found}
-use Rattle.acts.specs.Acts.{Touch}
+use Rattle.acts.specs.Acts.{Act, Found}
+use Rattle.acts.specs.Touch.{Touch}
 use Rattle.rulebook.specs.declared.Reply.{Reply}
 use Rattle.rulebook.specs.declared.Sizes.{Sizes}
 use Rattle.rulebook.specs.declared.Slot.{Slot}
@@ -23,7 +22,7 @@ use Rattle.rulebook.specs.Sizes.{last_serial, slot_of}
 use Rattle.rulebook.specs.State.{idle, is_free}
 use Rattle.rulebook.specs.Tests.{by_test, if_case}
 use Rattle.work.specs.Asked.{FoundBelow}
-use Rattle.acts.specs.Acts as touch
+use Rattle.acts.specs.Touch as touch
 use Rattle.rulebook.specs.declared.Stage.TheVariants as stage
 use Rattle.rulebook.specs.declared.Reading.TheVariants as reading
 use Rattle.rulebook.specs.declared.Progress.TheVariants as progress
@@ -31,6 +30,7 @@ use Rattle.rulebook.specs.declared.Reply.TheVariants as reply
 use Rattle.rulebook.specs.declared.Damaged.{Damaged}
 use Rattle.rulebook.specs.declared.Progress.{Progress}
 use Rattle.acts.specs.declared.Refusal.{Refusal}
+use Rattle.acts.specs.declared.Refusal.TheVariants as refusal
 
 -- ---- what is found is among the rows that were tried
 
@@ -93,45 +93,45 @@ module _ (d : Sizes) where
   module _ (t : ℕ) (in_t : t < d.t) where
     reach-reserve : (y : Result Slot Damaged) (j : ℕ) (k : Task) → j < d.h → InReach d (reserves_for y j t k)
     unfolding reserves_for
-    reach-reserve (Err _) j k h = reach-refused 2
+    reach-reserve (Err _) j k h = reach-refused refusal.Damaged
     reach-reserve (Ok x) j k h = reach-ends touch.Nothing j _ t k reply.Quiet h in_t
 
     reach-get : (q : Result Progress Damaged) (k : Task) → InReach d (get_goes q t k) × InReach d (page_goes q t k) × InReach d (copy_goes q t k)
     unfolding get_goes page_goes page_settles copy_goes
-    reach-get (Err _) k = (reach-refused 2, reach-refused 2, reach-refused 2)
+    reach-get (Err _) k = (reach-refused refusal.Damaged, reach-refused refusal.Damaged, reach-refused refusal.Damaged)
     reach-get (Ok (progress.Going r w)) k = (reach-goes touch.Nothing t _ _ in_t, reach-goes touch.Nothing t _ _ in_t, reach-goes touch.Nothing t _ _ in_t)
     reach-get (Ok (progress.Settled w)) k =
         (reach-goes touch.Nothing t _ _ in_t, reach_if (eqb (after w.cell) k.until) _ _ (λ _. reach-goes touch.Nothing t _ _ in_t) (λ _. reach-goes touch.Nothing t _ _ in_t), reach-goes touch.Nothing t _ _ in_t)
 
     reach-finish : (y : Result Slot Damaged) (x : Touch) (k : Task) (b L : ℕ) → Within y k.fresh → InReach d (finishes y x t k b L)
     unfolding finishes
-    reach-finish (Err _) x k b L h = reach-refused 2
-    reach-finish (Ok y) x k b L h = reach_if (leb last_serial y.serial) _ _ (λ _. reach-refused 2) (λ _. reach-ends x k.fresh _ t idle _ h in_t)
+    reach-finish (Err _) x k b L h = reach-refused refusal.Damaged
+    reach-finish (Ok y) x k b L h = reach_if (leb last_serial y.serial) _ _ (λ _. reach-refused refusal.Damaged) (λ _. reach-ends x k.fresh _ t idle _ h in_t)
 
     reach_give : (y : Result Slot Damaged) (k : Task) → Within y k.fresh → InReach d (gives_up y t k)
     unfolding gives_up
-    reach_give (Err _) k h = reach-refused 2
+    reach_give (Err _) k h = reach-refused refusal.Damaged
     reach_give (Ok y) k h = reach-ends touch.Nothing k.fresh _ t idle _ h in_t
 
     reach-take : (x : Found) (e : Sight) (k : Task) (g : Stage) → Within (e.slot k.fresh) k.fresh → InReach d (takes x e t k g)
     unfolding takes
-    reach-take (Err _) e k g h = reach-refused 2
+    reach-take (Err _) e k g h = reach-refused refusal.Damaged
     reach-take (Ok (Some b)) e k g h = reach-goes (touch.Take b) t _ _ in_t
     reach-take (Ok None) e k g h = reach_give (e.slot k.fresh) k h
 
     reach-exchange : (x : Result ℕ Damaged) (n : ℕ) (k : Task) → InReach d (exchanges_on x n t k)
     unfolding exchanges_on
-    reach-exchange (Err _) n k = reach-refused 2
+    reach-exchange (Err _) n k = reach-refused refusal.Damaged
     reach-exchange (Ok v) n k = reach_if (eqb v k.number) _ _ (λ _. reach-goes _ t _ _ in_t) (λ _. reach-goes touch.Nothing t _ _ in_t)
 
     reach-old : (x : Result ℕ Damaged) (k : Task) → InReach d (reads_old x t k)
     unfolding reads_old
-    reach-old (Err _) k = reach-refused 2
+    reach-old (Err _) k = reach-refused refusal.Damaged
     reach-old (Ok v) k = reach-goes touch.Nothing t _ _ in_t
 
     reach-at : (g : Stage) (e : Sight) (k : Task) → Within (e.slot k.fresh) k.fresh → InReach d (plan_at g e t k)
     unfolding plan_at fills_new appends_entry writes_new fills_copy puts
-    reach-at stage.Idle e k h = reach-refused 6
+    reach-at stage.Idle e k h = reach-refused refusal.Idle
     reach-at stage.TakeNew e k h = reach-take (free_in e) e k stage.FillNew h
     reach-at stage.FillNew e k h =
         reach_if (eqb (after k.hand.cell) e.sizes.n) _ _
@@ -229,7 +229,7 @@ module _ (p : List ℕ) (d : Sizes) (sp : Spans d p) where
   live_below h (Err n) e = reach-refused d n
   live_below h (Ok y) e =
       by_test (leb d.h (slot_of h))
-      (λ b. let q : Err 7 ≡ Ok y = rw b at e in let z : ◌≡◌ {A = ℕ} 0 1 = cc in absurd (omega arith))
+      (λ b. let q : Err refusal.Dead ≡ Ok y = rw b at e in let z : ◌≡◌ {A = ℕ} 0 1 = cc in absurd (omega arith))
       (λ b. release_at_lem (user_in (sight p d) (slot_of h)) y h (leb-false d.h (slot_of h) b))
 
   pub release_reaches : (h : ℕ) → InReach d (plan_release (sight p d) h)

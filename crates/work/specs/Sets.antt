@@ -15,13 +15,14 @@ use Rattle.rulebook.specs.State.{hand_of}
 use Rattle.rulebook.specs.Steps.{answer, guessed, moved}
 use Rattle.work.specs.Stepped.{Held, copied_on, does, does-goes, does-refused, exchanged_on, first_set, held-left, step_at, task_up, turned_to}
 use Rattle.work.specs.Works.{gone-does, refused-does, turned-does}
-use Rattle.acts.specs.Acts as touch
+use Rattle.acts.specs.Touch as touch
 use Rattle.rulebook.specs.declared.Reading.TheVariants as reading
 use Rattle.rulebook.specs.declared.Reply.TheVariants as reply
 use Rattle.rulebook.specs.declared.Stage.TheVariants as stage
 use Rattle.rulebook.specs.Codes.{damaged}
 use Rattle.rulebook.specs.declared.Damaged.{Damaged}
 use Rattle.rulebook.specs.declared.Reply.{Reply}
+use Rattle.acts.specs.declared.Refusal.TheVariants as refusal
 
 module _ (p : List ℕ) (d : Sizes) (t : ℕ) where
   -- ---- a set
@@ -32,7 +33,7 @@ module _ (p : List ℕ) (d : Sizes) (t : ℕ) where
     exchange_as = rw (← e, f)
 
     pub exchange-bad : x ≡ Err damaged → r ≡ reply.Refused 2 → (p, r) ≡ step_at p d t stage.Exchange
-    exchange-bad g j = let a : refused 2 ≡ exchanges_on x d.n t k = (unfold exchanges_on in rw g) in ap (λ (z : Reply). (p, z)) j ∙ does-refused p d t 2 ∙ ap (does p d t) a ∙ exchange_as
+    exchange-bad g j = let a : refused refusal.Damaged ≡ exchanges_on x d.n t k = (unfold exchanges_on in rw g) in ap (λ (z : Reply). (p, z)) j ∙ does-refused p d t 2 ∙ ap (does p d t) a ∙ exchange_as
 
     module _ (v : ℕ) (g : x ≡ Ok v) where
       pub exchange-later : (w : Hand) (q : List ℕ) → (v ≡ k.number → ⊥) → w ≡ hand_of 0 → (q, r) ≡ turned_to p d t stage.TakeCopy w → (q, r) ≡ step_at p d t stage.Exchange
@@ -82,7 +83,7 @@ module _ (p : List ℕ) (d : Sizes) (t : ℕ) where
     read_as = rw (← e, f)
 
     pub read-bad : x ≡ Err damaged → r ≡ reply.Refused 2 → (p, r) ≡ step_at p d t stage.Read
-    read-bad g j = let a : refused 2 ≡ reads_old x t k = (unfold reads_old in rw g) in ap (λ (z : Reply). (p, z)) j ∙ does-refused p d t 2 ∙ ap (does p d t) a ∙ read_as
+    read-bad g j = let a : refused refusal.Damaged ≡ reads_old x t k = (unfold reads_old in rw g) in ap (λ (z : Reply). (p, z)) j ∙ does-refused p d t 2 ∙ ap (does p d t) a ∙ read_as
 
     pub read-on : (v : ℕ) (w : Hand) (q : List ℕ) → x ≡ Ok v → w ≡ guessed k.hand v → (q, r) ≡ turned_to p d t stage.Append w → (q, r) ≡ step_at p d t stage.Read
     unfolding turned_to

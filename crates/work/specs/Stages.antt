@@ -24,7 +24,7 @@ use Rattle.rulebook.specs.Steps.{answer, guessed, middle, moved, probed_at, sear
 use Rattle.rulebook.specs.Tests.{by_test, if_case}
 use Rattle.work.specs.Stepped.{bounded_at, does, does-goes, does-refused, got_at, paged_at, settled_at, step_at, task_up, turned_to}
 use Rattle.acts.specs.declared.Reader.TheVariants as reader
-use Rattle.acts.specs.Acts as touch
+use Rattle.acts.specs.Touch as touch
 use Rattle.rulebook.specs.declared.Progress.TheVariants as progress
 use Rattle.rulebook.specs.declared.Reading.TheVariants as reading
 use Rattle.rulebook.specs.declared.Reply.TheVariants as reply
@@ -33,6 +33,7 @@ use Rattle.rulebook.specs.Codes.{damaged}
 use Rattle.rulebook.specs.declared.Damaged.{Damaged}
 use Rattle.rulebook.specs.declared.Progress.{Progress}
 use Rattle.rulebook.specs.declared.Reply.{Reply}
+use Rattle.acts.specs.declared.Refusal.TheVariants as refusal
 
 module _ (p : List ℕ) (d : Sizes) (t : ℕ) where
   -- ---- the row of the task
@@ -109,7 +110,7 @@ module _ (p : List ℕ) (d : Sizes) (t : ℕ) where
     reads-bad : (s : Reply) → read_in r (sight p d) (task_up p d t) ≡ Err damaged → s ≡ reply.Refused 2 → (p, s) ≡ step_at p d t (stage_for o r)
     reads-bad s e f = ap (λ (z : Reply). (p, z)) f ∙ does-refused p d t 2 ∙ ap (does p d t) (at o) ∙ as_reading
       where
-        at : (x : Reader) → refused 2 ≡ goes_on x (read_in r (sight p d) (task_up p d t)) t (task_up p d t)
+        at : (x : Reader) → refused refusal.Damaged ≡ goes_on x (read_in r (sight p d) (task_up p d t)) t (task_up p d t)
         at reader.Get = unfold goes_on get_goes in rw e
         at reader.Copy = unfold goes_on copy_goes in rw e
         at reader.Page = unfold goes_on page_goes in rw e

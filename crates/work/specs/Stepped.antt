@@ -8,7 +8,7 @@ use Rattle.std.proofs.Common.{◌∙◌, subst}
 use Rattle.std.proofs.Math.Path.{ap, refl, sym}
 use Rattle.acts.specs.Acts.{Act}
 use Rattle.acts.specs.declared.Reader.{Reader}
-use Rattle.acts.specs.Acts.{Touch}
+use Rattle.acts.specs.Touch.{Touch}
 use Rattle.rulebook.specs.declared.Hand.{Hand}
 use Rattle.rulebook.specs.declared.Reply.{Reply}
 use Rattle.rulebook.specs.declared.Sizes.{Sizes}
@@ -27,7 +27,7 @@ use Rattle.layout.specs.Rows.{task_with}
 use Rattle.rulebook.specs.Sizes.{last_serial, public_number}
 use Rattle.rulebook.specs.State.{hand_of, idle}
 use Rattle.rulebook.specs.Steps.{aimed, moved}
-use Rattle.acts.specs.Acts as touch
+use Rattle.acts.specs.Touch as touch
 use Rattle.rulebook.specs.declared.Progress.TheVariants as progress
 use Rattle.rulebook.specs.declared.Reading.TheVariants as reading
 use Rattle.rulebook.specs.declared.Reply.TheVariants as reply

@@ -5,7 +5,7 @@ use Rattle.std.proofs.Common.{◌∙◌, subst, sym, arith}
 use Rattle.std.proofs.Math.Path.{ap, refl}
 use borrow.Author.Tests.{le-leb, lt-leb, leb-false, ltb-true, not-false, not-true}
 use Rattle.acts.specs.Acts.{Act}
-use Rattle.acts.specs.Acts.{Touch}
+use Rattle.acts.specs.Touch.{Touch}
 use Rattle.rulebook.specs.declared.Hand.{Hand}
 use Rattle.rulebook.specs.declared.Sizes.{Sizes}
 use Rattle.rulebook.specs.declared.Slot.{Slot}
@@ -22,13 +22,14 @@ use Rattle.rulebook.specs.State.{freed, idle}
 use Rattle.rulebook.specs.Steps.{moved}
 use Rattle.rulebook.specs.Tests.{by_test}
 use Rattle.work.specs.Stepped.{Fresh, Held, Seat, does, does-ends, does_not, does-refused, does-seats, does-touches, fill_made, filled_last, given_up, held-left, made_at, made_on, next_serial, step_at, task_up, turned_to, up_left, write_made}
-use Rattle.acts.specs.Acts as touch
+use Rattle.acts.specs.Touch as touch
 use Rattle.rulebook.specs.declared.Reply.TheVariants as reply
 use Rattle.rulebook.specs.declared.Stage.TheVariants as stage
 use Rattle.rulebook.specs.declared.Status.TheVariants as status
 use Rattle.rulebook.specs.Codes.{damaged}
 use Rattle.rulebook.specs.declared.Damaged.{Damaged}
 use Rattle.rulebook.specs.declared.Reply.{Reply}
+use Rattle.acts.specs.declared.Refusal.TheVariants as refusal
 
 -- ---- the serial of the handle that is made
 
@@ -155,7 +156,7 @@ module _ (p : List ℕ) (d : Sizes) (t : ℕ) where
 
   -- ---- where its slot has a serial left
 
-  finish-spent : (y : Result Slot Damaged) (x : Touch) (k : Task) (b l : ℕ) → next_serial y ≡ 0 → finishes y x t k b l ≡ refused 2
+  finish-spent : (y : Result Slot Damaged) (x : Touch) (k : Task) (b l : ℕ) → next_serial y ≡ 0 → finishes y x t k b l ≡ refused refusal.Damaged
   unfolding finishes next_serial
   finish-spent (Err _) x k b l q = refl
   finish-spent (Ok y) x k b l q = by_test (leb last_serial y.serial) (λ o. rw o) (λ o. absurd (omega (arith, (rw o at q))))
