@@ -1,181 +1,149 @@
-// Blocks: block k's words are lent on as a part of the pool, and what reads or writes them sees no others.
-ghost use Rattle.std.specs.Prelude.{◌≡◌, ltb};
-ghost use Rattle.acts.specs.declared.Touch.TheVariants as touch;
-ghost use Rattle.layout.specs.Places.{Spans, Small, Place};
-ghost use Rattle.layout.specs.Pool.{cell_seen, entry_seen, length_seen, raised, touched_in, version_seen};
+// Blocks: a block's words are lent on as a part of the pool, and what reads or writes them sees no others.
+ghost use Rattle.std.specs.Prelude.{◌≡◌, ◌≤◌, ◌<◌};
+ghost use Rattle.layout.specs.Places.{Small, Place};
 
-use super::{MOST_BLOCKS, block_words, control_words, wide};
-use block::{Exchanged, Looked, Probed};
-use rulebook::{Entry, Sizes};
+use super::view::{Pool, PoolMut};
+use rulebook::{Damaged, Entry, MOST_BLOCKS, Sizes, block_words, control_words};
+use std::ops::Range;
 
-// The words from start to end.
-#[derive(Clone, Copy)]
-pub struct Extent {
-    pub start: usize,
-    pub end: usize,
+// Where a block lies, of any that a store may have.
+#[tactic(auto, using(layout::specs::Lends::extents), unfolding(layout::specs::Parts::part, layout::specs::Parts::splice))]
+fn place(sizes: Sizes, block: u32) -> Range<usize>
+    requires { Small sizes block }
+    ensures { Place sizes block result.start result.end }
+{
+    let words = block_words(sizes.n) as usize;
+    let start = control_words(sizes.h, sizes.t) as usize + words * block as usize;
+    start..start + words
 }
 
-// Where block k lies.
-pub fn extent_of(d: Sizes, k: u32) -> Extent
-    requires { Small d k }
-    ensures { Place d k result.start result.end }
-{
-    let words = block_words(d.n);
-    let start = control_words(d.h, d.t) + words * wide(k);
-    Extent {
-        start,
-        end: start + words,
+impl Pool<'_> {
+    ghost use Rattle.std.specs.Prelude.{◌≡◌, ◌≤◌, ◌<◌, length, is_ok, IfOk, ltb};
+    ghost use Rattle.layout.specs.Places.{Place};
+    ghost use Rattle.layout.specs.Pool.{cell_seen, entry_seen, length_seen, version_seen};
+
+    // The block's part of the words. No division: B itself is not needed to tell whether there is such a block.
+    #[tactic(auto, using(layout::specs::Lends::nears), unfolding(layout::specs::Parts::part, layout::specs::Parts::splice))]
+    pub(crate) fn part(self, block: u32) -> Result<Range<usize>, Damaged>
+        ensures there { is_ok result ≡ ltb block self.entry.sizes.b }
+        ensures place { IfOk result (λ part. Place self.entry.sizes block part.start part.end × (block < self.entry.sizes.b)) }
+    {
+        if MOST_BLOCKS <= block {
+            return Err(Damaged);
+        }
+        let part = place(self.sizes, block);
+        if self.words.len() < part.end {
+            return Err(Damaged);
+        }
+        Ok(part)
     }
-}
 
-// Whether there is a block k. No division: B itself is not needed to tell.
-pub fn near(pool: &[u32], d: Sizes, k: u32) -> bool
-    requires { Spans d pool.now }
-    ensures { result ≡ ltb k d.b }
-{
-    if MOST_BLOCKS <= k {
-        return false;
+    // The part of a block that is there.
+    #[tactic(auto, using(layout::specs::Lends::lends), unfolding(layout::specs::Parts::part, layout::specs::Parts::splice))]
+    pub(crate) fn part_of(self, block: u32) -> Range<usize>
+        requires { block < self.sizes.b }
+        ensures { Place self.entry.sizes block result.start result.end }
+    {
+        place(self.sizes, block)
     }
-    let x = extent_of(d, k);
-    let e = x.end;
-    if pool.len() < e {
-        return false;
+
+    /// Whether there is such a block.
+    pub fn has_block(self, block: u32) -> bool
+        ensures { result ≡ ltb block self.entry.sizes.b }
+    {
+        self.part(block).is_ok()
     }
-    true
-}
 
-// ---- reading
-
-// V of block k.
-pub fn version(pool: &[u32], d: Sizes, k: u32) -> Looked
-    requires { Spans d pool.now }
-    ensures { result ≡ version_seen pool.now d k }
-{
-    if !near(pool, d, k) {
-        return Looked::Bad;
+    /// V of the block.
+    #[tactic(auto, unfolding(layout::specs::Pool::version_seen, layout::specs::Parts::part, layout::specs::Parts::splice), using(layout::specs::Lends::looks))]
+    pub fn version(self, block: u32) -> Result<u32, Damaged>
+        ensures { result ≡ version_seen self.entry.words.now self.entry.sizes block }
+    {
+        let part = self.part(block)?;
+        block::version(&self.words[part], self.sizes.n)
     }
-    let x = extent_of(d, k);
-    let s = x.start;
-    let e = x.end;
-    block::version(&pool[s..e], d.n)
-}
 
-// Its cell i.
-pub fn cell(pool: &[u32], d: Sizes, k: u32, i: u32) -> Looked
-    requires { Spans d pool.now }
-    ensures { result ≡ cell_seen pool.now d k i }
-{
-    if !near(pool, d, k) {
-        return Looked::Bad;
+    /// Its cell.
+    #[tactic(auto, unfolding(layout::specs::Pool::cell_seen, layout::specs::Parts::part, layout::specs::Parts::splice), using(layout::specs::Lends::looks))]
+    pub fn cell(self, block: u32, cell: u32) -> Result<u32, Damaged>
+        ensures { result ≡ cell_seen self.entry.words.now self.entry.sizes block cell }
+    {
+        let part = self.part(block)?;
+        block::cell(&self.words[part], self.sizes.n, cell)
     }
-    let x = extent_of(d, k);
-    let s = x.start;
-    let e = x.end;
-    block::cell(&pool[s..e], d.n, i)
-}
 
-// How many entries the log of its cell i has.
-pub fn log_length(pool: &[u32], d: Sizes, k: u32, i: u32) -> Looked
-    requires { Spans d pool.now }
-    ensures { result ≡ length_seen pool.now d k i }
-{
-    if !near(pool, d, k) {
-        return Looked::Bad;
+    /// How many entries the log of its cell has.
+    #[tactic(auto, unfolding(layout::specs::Pool::length_seen, layout::specs::Parts::part, layout::specs::Parts::splice), using(layout::specs::Lends::looks))]
+    pub fn log_length(self, block: u32, cell: u32) -> Result<u32, Damaged>
+        ensures { result ≡ length_seen self.entry.words.now self.entry.sizes block cell }
+    {
+        let part = self.part(block)?;
+        block::log_length(&self.words[part], self.sizes.n, cell)
     }
-    let x = extent_of(d, k);
-    let s = x.start;
-    let e = x.end;
-    block::log_length(&pool[s..e], d.n, i)
-}
 
-// Entry j of that log.
-pub fn entry(pool: &[u32], d: Sizes, k: u32, i: u32, j: u32) -> Probed
-    requires { Spans d pool.now }
-    ensures { result ≡ entry_seen pool.now d k i j }
-{
-    if !near(pool, d, k) {
-        return Probed::Bad;
-    }
-    let x = extent_of(d, k);
-    let s = x.start;
-    let e = x.end;
-    block::entry(&pool[s..e], d.n, i, j)
-}
-
-// ---- touching: whether it was done
-
-fn was_raised(r: Exchanged) -> bool
-    ensures { result ≡ raised r }
-{
-    match r {
-        Exchanged::Raised => true,
-        Exchanged::Same => false,
-        Exchanged::Bad => false,
+    /// An entry of that log.
+    #[tactic(auto, unfolding(layout::specs::Pool::entry_seen, layout::specs::Parts::part, layout::specs::Parts::splice), using(layout::specs::Lends::looks))]
+    pub fn entry(self, block: u32, cell: u32, index: u32) -> Result<Entry, Damaged>
+        ensures { result ≡ entry_seen self.entry.words.now self.entry.sizes block cell index }
+    {
+        let part = self.part(block)?;
+        block::entry(&self.words[part], self.sizes.n, cell, index)
     }
 }
 
-pub fn exchange(pool: &mut [u32], d: Sizes, k: u32, l: u32) -> bool
-    requires { Spans d pool.old }
-    ensures { (pool.new, result) ≡ touched_in pool.old d (touch.Exchange k l) }
-{
-    if !near(pool, d, k) {
-        return false;
-    }
-    let x = extent_of(d, k);
-    let s = x.start;
-    let e = x.end;
-    let r = block::exchange(&mut pool[s..e], d.n, l);
-    was_raised(r)
-}
+impl PoolMut<'_> {
+    ghost use Rattle.std.specs.Prelude.{◌≡◌, is_ok};
+    ghost use Rattle.acts.specs.Touch as touch;
+    ghost use Rattle.layout.specs.Pool.{raised, touched_in};
+    ghost use Rattle.pool.specs.Loans.{IsSameLoan};
 
-pub fn append(pool: &mut [u32], d: Sizes, k: u32, i: u32, x: Entry) -> bool
-    requires { Spans d pool.old }
-    ensures { (pool.new, result) ≡ touched_in pool.old d (touch.Append k i x) }
-{
-    if !near(pool, d, k) {
-        return false;
+    /// If V of the block is the number, V becomes one more; it answers whether it did.
+    #[tactic(auto, using(layout::specs::Lends::touches), unfolding(layout::specs::Parts::part, layout::specs::Parts::splice))]
+    pub fn exchange(&mut self, block: u32, number: u32) -> Result<bool, Damaged>
+        ensures words { (self.new.words.now, raised result) ≡ touched_in self.old.words.now self.old.sizes (touch.Exchange block number) }
+        ensures same { IsSameLoan self.old self.new }
+    {
+        let part = self.as_pool().part(block)?;
+        block::exchange(&mut self.words[part], self.sizes.n, number)
     }
-    let y = extent_of(d, k);
-    let s = y.start;
-    let e = y.end;
-    block::append(&mut pool[s..e], d.n, i, x.version, x.old)
-}
 
-pub fn write(pool: &mut [u32], d: Sizes, k: u32, i: u32, v: u32) -> bool
-    requires { Spans d pool.old }
-    ensures { (pool.new, result) ≡ touched_in pool.old d (touch.Write k i v) }
-{
-    if !near(pool, d, k) {
-        return false;
+    /// Adds an entry to the log of its cell.
+    #[tactic(auto, using(layout::specs::Lends::touches), unfolding(layout::specs::Parts::part, layout::specs::Parts::splice))]
+    pub fn append(&mut self, block: u32, cell: u32, entry: Entry) -> Result<(), Damaged>
+        ensures words { (self.new.words.now, is_ok result) ≡ touched_in self.old.words.now self.old.sizes (touch.Append block cell entry) }
+        ensures same { IsSameLoan self.old self.new }
+    {
+        let part = self.as_pool().part(block)?;
+        block::append(&mut self.words[part], self.sizes.n, cell, entry)
     }
-    let x = extent_of(d, k);
-    let s = x.start;
-    let e = x.end;
-    block::write(&mut pool[s..e], d.n, i, v)
-}
 
-pub fn take(pool: &mut [u32], d: Sizes, k: u32) -> bool
-    requires { Spans d pool.old }
-    ensures { (pool.new, result) ≡ touched_in pool.old d (touch.Take k) }
-{
-    if !near(pool, d, k) {
-        return false;
+    /// Writes its cell.
+    #[tactic(auto, using(layout::specs::Lends::touches), unfolding(layout::specs::Parts::part, layout::specs::Parts::splice))]
+    pub fn write(&mut self, block: u32, cell: u32, value: u32) -> Result<(), Damaged>
+        ensures words { (self.new.words.now, is_ok result) ≡ touched_in self.old.words.now self.old.sizes (touch.Write block cell value) }
+        ensures same { IsSameLoan self.old self.new }
+    {
+        let part = self.as_pool().part(block)?;
+        block::write(&mut self.words[part], self.sizes.n, cell, value)
     }
-    let x = extent_of(d, k);
-    let s = x.start;
-    let e = x.end;
-    block::take(&mut pool[s..e], d.n)
-}
 
-pub fn fill(pool: &mut [u32], d: Sizes, k: u32, i: u32, v: u32) -> bool
-    requires { Spans d pool.old }
-    ensures { (pool.new, result) ≡ touched_in pool.old d (touch.Fill k i v) }
-{
-    if !near(pool, d, k) {
-        return false;
+    /// Takes the block: V becomes 0, and nothing is in its arena.
+    #[tactic(auto, using(layout::specs::Lends::touches), unfolding(layout::specs::Parts::part, layout::specs::Parts::splice))]
+    pub fn take(&mut self, block: u32) -> Result<(), Damaged>
+        ensures words { (self.new.words.now, is_ok result) ≡ touched_in self.old.words.now self.old.sizes (touch.Take block) }
+        ensures same { IsSameLoan self.old self.new }
+    {
+        let part = self.as_pool().part(block)?;
+        block::take(&mut self.words[part], self.sizes.n)
     }
-    let x = extent_of(d, k);
-    let s = x.start;
-    let e = x.end;
-    block::fill(&mut pool[s..e], d.n, i, v)
+
+    /// Writes a cell of a block being filled, and empties its log.
+    #[tactic(auto, using(layout::specs::Lends::touches), unfolding(layout::specs::Parts::part, layout::specs::Parts::splice))]
+    pub fn fill(&mut self, block: u32, cell: u32, value: u32) -> Result<(), Damaged>
+        ensures words { (self.new.words.now, is_ok result) ≡ touched_in self.old.words.now self.old.sizes (touch.Fill block cell value) }
+        ensures same { IsSameLoan self.old self.new }
+    {
+        let part = self.as_pool().part(block)?;
+        block::fill(&mut self.words[part], self.sizes.n, cell, value)
+    }
 }

@@ -1,88 +1,65 @@
 // The pool's first words, and the sizes that they give.
-ghost use Rattle.std.specs.Prelude.{◌≡◌};
+ghost use Rattle.std.specs.Prelude.{◌≡◌, IfSome};
 ghost use Rattle.layout.specs.Header.{limited, sizes_in, header_of};
+ghost use Rattle.layout.specs.Places.{Spans};
 
-use super::{FORM, HEADER, MARK, MOST_BLOCKS, block_words, control_words, wide};
-use layout::Header;
-use rulebook::Sizes;
-
-const MOST_CELLS: u32 = 4096;
-
-const MOST_HANDLES: u32 = 256;
-
-const MOST_TASKS: u32 = 16;
+use super::{FORM, MARK};
+use rulebook::{
+    HEADER_WORDS, MOST_BLOCKS, MOST_CELLS, MOST_HANDLES, MOST_TASKS, Sizes, block_words,
+    control_words,
+};
 
 const MOST_WORDS: usize = 4294967295;
 
 // N, H and T within their limits.
-fn limits(n: u32, h: u32, t: u32) -> bool
-    ensures { result ≡ limited n h t }
+#[tactic(auto, unfolding(layout::specs::Header::limited))]
+fn limits(cells: u32, handles: u32, tasks: u32) -> bool
+    ensures { result ≡ limited cells handles tasks }
 {
-    if n < 1 {
-        return false;
-    }
-    if MOST_CELLS < n {
-        return false;
-    }
-    if h < 1 {
-        return false;
-    }
-    if MOST_HANDLES < h {
-        return false;
-    }
-    if t < 1 {
-        return false;
-    }
-    t <= MOST_TASKS
+    1 <= cells
+        && cells <= MOST_CELLS
+        && 1 <= handles
+        && handles <= MOST_HANDLES
+        && 1 <= tasks
+        && tasks <= MOST_TASKS
 }
 
-// The sizes of a store in a pool of so many words, where it may be opened.
-pub fn sizes(words: usize, n: u32, h: u32, t: u32) -> Header
-    ensures { result ≡ sizes_in n h t words }
+/// The sizes of a store in a pool of so many words, where it may be opened.
+#[tactic(auto, using(layout::specs::Ways::sizing))]
+pub fn sizes(words: usize, cells: u32, handles: u32, tasks: u32) -> Option<Sizes>
+    ensures { result ≡ sizes_in cells handles tasks words }
 {
-    if !limits(n, h, t) {
-        return Header::Bad;
+    if !limits(cells, handles, tasks) || MOST_WORDS < words {
+        return None;
     }
-    if MOST_WORDS < words {
-        return Header::Bad;
-    }
-    let control = control_words(h, t);
-    let block = block_words(n);
+    let control = control_words(handles, tasks) as usize;
+    let block = block_words(cells) as usize;
     if words < control + block {
-        return Header::Bad;
+        return None;
     }
-    let b = (words - control) / block;
-    if b < MOST_BLOCKS as usize {
-        return Header::Good(Sizes {
-            n,
-            h,
-            t,
-            b: b as u32,
-        });
-    }
-    Header::Good(Sizes {
-        n,
-        h,
-        t,
-        b: MOST_BLOCKS,
+    let room = (words - control) / block;
+    let blocks = room.min(MOST_BLOCKS as usize) as u32;
+    Some(Sizes {
+        n: cells,
+        h: handles,
+        t: tasks,
+        b: blocks,
     })
 }
 
-// What words 0 to 5 say, where they describe the pool.
-pub fn header_of(pool: &[u32]) -> Header
-    ensures { result ≡ header_of pool.now }
+/// What words 0 to 5 say, where they describe the pool.
+#[tactic(auto, using(layout::specs::Ways::headers))]
+pub fn header_of(words: &[u32]) -> Option<Sizes>
+    ensures sizes { result ≡ header_of words.now }
+    ensures spans { IfSome result (λ sizes. Spans sizes words.now) }
 {
-    if pool.len() < HEADER as usize {
-        return Header::Bad;
+    let length = words.len();
+    if length < HEADER_WORDS as usize
+        || words[0] != MARK
+        || words[5] != FORM
+        || words[4] as usize != length
+    {
+        return None;
     }
-    if pool[0] != MARK {
-        return Header::Bad;
-    }
-    if pool[5] != FORM {
-        return Header::Bad;
-    }
-    if wide(pool[4]) != pool.len() {
-        return Header::Bad;
-    }
-    sizes(pool.len(), pool[1], pool[2], pool[3])
+    sizes(length, words[1], words[2], words[3])
 }

@@ -1,65 +1,56 @@
 // What the check reads of a block: its words as they stand, whatever they say.
-ghost use Rattle.std.specs.Prelude.{◌≡◌, ◌≤◌, ◌<◌};
-ghost use Rattle.block.specs.Layout.{bump_of, length_of, version_of};
-ghost use Rattle.block.specs.Raw.{stamp_in};
-ghost use Rattle.block.specs.Sound.{Laid};
-ghost use Rattle.block.specs.Walk.{Decides};
-ghost use Rattle.layout.specs.Places.{Spans, block_part};
+use super::view::Pool;
 
-use super::blocks::extent_of;
-use rulebook::Sizes;
+impl Pool<'_> {
+    ghost use Rattle.std.specs.Prelude.{◌≡◌, ◌≤◌, ◌<◌};
+    ghost use Rattle.block.specs.Layout.{bump_of, length_of, version_of};
+    ghost use Rattle.block.specs.Raw.{stamp_in};
+    ghost use Rattle.block.specs.Sound.{Laid};
+    ghost use Rattle.block.specs.Walk.{Decides};
+    ghost use Rattle.layout.specs.Places.{block_part};
 
-// V of block k.
-pub fn raw_version(pool: &[u32], d: Sizes, k: u32) -> u32
-    requires { Spans d pool.now × (k < d.b) }
-    ensures { result ≡ version_of (block_part pool.now d k) }
-{
-    let x = extent_of(d, k);
-    let s = x.start;
-    let e = x.end;
-    block::raw_version(&pool[s..e], d.n)
-}
+    /// V of the block.
+    #[tactic(auto, using(layout::specs::Raw::raws), unfolding(layout::specs::Parts::part, layout::specs::Parts::splice))]
+    pub fn raw_version(self, block: u32) -> u32
+        requires { block < self.sizes.b }
+        ensures { result ≡ version_of (block_part self.entry.words.now self.entry.sizes block) }
+    {
+        block::raw_version(&self.words[self.part_of(block)], self.sizes.n)
+    }
 
-// How many places of its arena are taken.
-pub fn raw_bump(pool: &[u32], d: Sizes, k: u32) -> u32
-    requires { Spans d pool.now × (k < d.b) }
-    ensures { result ≡ bump_of (block_part pool.now d k) }
-{
-    let x = extent_of(d, k);
-    let s = x.start;
-    let e = x.end;
-    block::raw_bump(&pool[s..e], d.n)
-}
+    /// How many places of its arena are taken.
+    #[tactic(auto, using(layout::specs::Raw::raws), unfolding(layout::specs::Parts::part, layout::specs::Parts::splice))]
+    pub fn raw_bump(self, block: u32) -> u32
+        requires { block < self.sizes.b }
+        ensures { result ≡ bump_of (block_part self.entry.words.now self.entry.sizes block) }
+    {
+        block::raw_bump(&self.words[self.part_of(block)], self.sizes.n)
+    }
 
-// The length of the log of its cell i.
-pub fn raw_length(pool: &[u32], d: Sizes, k: u32, i: u32) -> u32
-    requires { Spans d pool.now × (k < d.b) × (i < d.n) }
-    ensures { result ≡ length_of d.n (block_part pool.now d k) i }
-{
-    let x = extent_of(d, k);
-    let s = x.start;
-    let e = x.end;
-    block::raw_length(&pool[s..e], d.n, i)
-}
+    /// The length of the log of its cell.
+    #[tactic(auto, using(layout::specs::Raw::raws), unfolding(layout::specs::Parts::part, layout::specs::Parts::splice))]
+    pub fn raw_length(self, block: u32, cell: u32) -> u32
+        requires { (block < self.sizes.b) × (cell < self.sizes.n) }
+        ensures { result ≡ length_of self.entry.sizes.n (block_part self.entry.words.now self.entry.sizes block) cell }
+    {
+        block::raw_length(&self.words[self.part_of(block)], self.sizes.n, cell)
+    }
 
-// The version of entry j of that log, wherever the log ends.
-pub fn raw_stamp(pool: &[u32], d: Sizes, k: u32, i: u32, j: u32) -> u32
-    requires { Spans d pool.now × (k < d.b) × (i < d.n) × (j ≤ d.n) }
-    ensures { result ≡ stamp_in d.n (block_part pool.now d k) i j }
-{
-    let x = extent_of(d, k);
-    let s = x.start;
-    let e = x.end;
-    block::raw_stamp(&pool[s..e], d.n, i, j)
-}
+    /// The version of an entry of that log, wherever the log ends.
+    #[tactic(auto, using(layout::specs::Raw::raws), unfolding(layout::specs::Parts::part, layout::specs::Parts::splice))]
+    pub fn raw_stamp(self, block: u32, cell: u32, index: u32) -> u32
+        requires { (block < self.sizes.b) × (cell < self.sizes.n) × (index ≤ self.sizes.n) }
+        ensures { result ≡ stamp_in self.entry.sizes.n (block_part self.entry.words.now self.entry.sizes block) cell index }
+    {
+        block::raw_stamp(&self.words[self.part_of(block)], self.sizes.n, cell, index)
+    }
 
-// Whether its words are laid out as a block's are.
-pub fn laid(pool: &[u32], d: Sizes, k: u32) -> bool
-    requires { Spans d pool.now × (k < d.b) }
-    ensures { Decides result (Laid d.n (block_part pool.now d k)) }
-{
-    let x = extent_of(d, k);
-    let s = x.start;
-    let e = x.end;
-    block::laid(&pool[s..e], d.n)
+    /// Whether its words are laid out as a block's are.
+    #[tactic(auto, using(layout::specs::Raw::raws), unfolding(layout::specs::Parts::part, layout::specs::Parts::splice))]
+    pub fn laid(self, block: u32) -> bool
+        requires { block < self.sizes.b }
+        ensures { Decides result (Laid self.entry.sizes.n (block_part self.entry.words.now self.entry.sizes block)) }
+    {
+        block::laid(&self.words[self.part_of(block)], self.sizes.n)
+    }
 }

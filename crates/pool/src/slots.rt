@@ -1,122 +1,122 @@
 // Handle rows: where they lie, their words, what a call sees of them, and the ranges that the check tests.
-ghost use Rattle.std.specs.Prelude.{◌≡◌, ◌<◌, length};
+ghost use Rattle.std.specs.Prelude.{◌≡◌, ◌+◌, ◌<◌, ◌≤◌, length};
 ghost use Rattle.rulebook.specs.Sizes.{most_handles, handle_row};
-ghost use Rattle.layout.specs.Places.{Spans, slot_start, slot_part};
-ghost use Rattle.layout.specs.Rows.{slot_words, slot_read, slot_row_of, slot_seen_of};
-ghost use Rattle.layout.specs.Pool.{slot_in, slot_seen, put_slot};
+ghost use Rattle.layout.specs.Places.{slot_start};
+ghost use Rattle.layout.specs.Rows.{slot_words, slot_read, slot_seen_of, slot_fits};
 
-use super::codes::{status_code, status_from};
-use super::{HANDLE_ROW, HEADER, wide};
-use acts::SlotRow;
-use rulebook::{Sizes, Slot};
+use super::view::{Pool, PoolMut};
+use rulebook::{Damaged, HANDLE_ROW, HEADER_WORDS, LAST_SERIAL, Sizes, Slot, Status};
+use std::ops::Range;
 
-const SLOT_WORDS: usize = HANDLE_ROW as usize;
-
-// The largest serial.
-const LAST_SERIAL: u32 = 16777215;
-
-fn write_slot(row: &mut [u32], x: Slot)
-    requires { length row.old ≡ handle_row }
-    ensures { row.new ≡ slot_words x }
+// Where the row lies.
+fn row(slot: u32) -> Range<usize>
+    requires { slot < most_handles }
+    ensures { (result.start ≡ slot_start slot) × (result.end ≡ slot_start slot + handle_row) × (result.end ≤ 1040) }
 {
-    let s = x.status;
-    row[0] = x.serial;
-    row[1] = status_code(s);
-    row[2] = x.block;
-    row[3] = x.number;
+    let start = (HEADER_WORDS + HANDLE_ROW * slot) as usize;
+    start..start + HANDLE_ROW as usize
 }
 
-fn read_slot(row: &[u32], d: Sizes) -> SlotRow
-    requires { length row.now ≡ handle_row }
-    ensures { result ≡ slot_row_of d row.now }
+#[tactic(auto, unfolding(layout::specs::Rows::slot_words), using(layout::specs::Ways::rowing))]
+fn write(row: &mut [u32], slot: Slot)
+    requires { length row.old ≡ handle_row }
+    ensures { row.new ≡ slot_words slot }
 {
-    if 3 <= row[1] {
-        return SlotRow::Bad;
-    }
-    if d.b <= row[2] {
-        return SlotRow::Bad;
-    }
-    if d.n < row[3] {
-        return SlotRow::Bad;
-    }
-    if LAST_SERIAL < row[0] {
-        return SlotRow::Bad;
-    }
-    let s = status_from(row[1]);
-    SlotRow::Row(Slot {
+    row[0] = slot.serial;
+    row[1] = u32::from(slot.status);
+    row[2] = slot.block;
+    row[3] = slot.number;
+}
+
+// The slot of a row that has a status' code.
+#[tactic(auto, unfolding(layout::specs::Rows::slot_seen_of, layout::specs::Rows::slot_read, rulebook::specs::Codes::status_coded))]
+fn read(row: &[u32]) -> Result<Slot, Damaged>
+    requires { length row.now ≡ handle_row }
+    ensures { result ≡ slot_seen_of row.now }
+{
+    Ok(Slot {
         serial: row[0],
-        status: s,
+        status: Status::try_from(row[1])?,
         block: row[2],
         number: row[3],
     })
 }
 
-fn slot_start(j: u32) -> usize
-    requires { j < most_handles }
-    ensures { result ≡ slot_start j }
-{
-    wide(HEADER + HANDLE_ROW * j)
-}
-
-fn slot_of(row: &[u32]) -> Slot
+// The slot of a row, free where it has no status' code.
+#[tactic(auto, unfolding(layout::specs::Rows::slot_read, rulebook::specs::Codes::status_coded, rulebook::specs::Codes::status_from))]
+fn read_raw(row: &[u32]) -> Slot
     requires { length row.now ≡ handle_row }
     ensures { result ≡ slot_read row.now }
 {
-    let s = status_from(row[1]);
     Slot {
         serial: row[0],
-        status: s,
+        status: Status::try_from(row[1]).unwrap_or(Status::Free),
         block: row[2],
         number: row[3],
     }
 }
 
-// Slot j as it lies, whatever its ranges.
-pub fn slot_at(pool: &[u32], d: Sizes, j: u32) -> Slot
-    requires { Spans d pool.now × (j < d.h) }
-    ensures { result ≡ slot_read (slot_part pool.now j) }
+// Each number is in its range.
+#[tactic(auto, unfolding(layout::specs::Rows::slot_fits, rulebook::specs::Sizes::last_serial))]
+fn fits(slot: Slot, sizes: Sizes) -> bool
+    ensures { result ≡ slot_fits sizes slot }
 {
-    let s = slot_start(j);
-    slot_of(&pool[s..s + SLOT_WORDS])
+    slot.block < sizes.b && slot.number <= sizes.n && slot.serial <= LAST_SERIAL
 }
 
-// The slot of a row that has a status' code.
-fn seen_slot(row: &[u32]) -> SlotRow
-    requires { length row.now ≡ handle_row }
-    ensures { result ≡ slot_seen_of row.now }
-{
-    if 3 <= row[1] {
-        return SlotRow::Bad;
+impl Pool<'_> {
+    ghost use Rattle.std.specs.Prelude.{◌≡◌, ◌<◌};
+    ghost use Rattle.layout.specs.Places.{slot_part};
+    ghost use Rattle.layout.specs.Rows.{slot_read};
+    ghost use Rattle.layout.specs.Pool.{slot_in, slot_seen};
+
+    /// The slot as a call sees it.
+    #[tactic(auto, unfolding(layout::specs::Pool::slot_seen, layout::specs::Places::slot_part, layout::specs::Parts::part, layout::specs::Parts::splice), using(layout::specs::Lends::lends))]
+    pub fn slot(self, slot: u32) -> Result<Slot, Damaged>
+        ensures { result ≡ slot_seen self.entry.words.now self.entry.sizes slot }
+    {
+        if self.sizes.h <= slot {
+            return Err(Damaged);
+        }
+        read(&self.words[row(slot)])
     }
-    let x = slot_of(row);
-    SlotRow::Row(x)
-}
 
-// Slot j as a call sees it.
-pub fn see_slot(pool: &[u32], d: Sizes, j: u32) -> SlotRow
-    requires { Spans d pool.now }
-    ensures { result ≡ slot_seen pool.now d j }
-{
-    if d.h <= j {
-        return SlotRow::Bad;
+    /// The slot as it lies, whatever its ranges.
+    #[tactic(auto, unfolding(layout::specs::Places::slot_part, layout::specs::Parts::part, layout::specs::Parts::splice), using(layout::specs::Lends::lends))]
+    pub fn raw_slot(self, slot: u32) -> Slot
+        requires { slot < self.sizes.h }
+        ensures { result ≡ slot_read (slot_part self.entry.words.now slot) }
+    {
+        read_raw(&self.words[row(slot)])
     }
-    let s = slot_start(j);
-    seen_slot(&pool[s..s + SLOT_WORDS])
+
+    /// The slot where each of its numbers is in its range.
+    #[tactic(auto, unfolding(layout::specs::Pool::slot_in, layout::specs::Rows::slot_row_of, layout::specs::Rows::slot_seen_of, layout::specs::Places::slot_part, layout::specs::Parts::part, layout::specs::Parts::splice), using(layout::specs::Lends::lends))]
+    pub fn ranged_slot(self, slot: u32) -> Result<Slot, Damaged>
+        requires { slot < self.sizes.h }
+        ensures { result ≡ slot_in self.entry.words.now self.entry.sizes slot }
+    {
+        let found = read(&self.words[row(slot)])?;
+        if fits(found, self.sizes) {
+            Ok(found)
+        } else {
+            Err(Damaged)
+        }
+    }
 }
 
-// Slot j where each of its numbers is in its range.
-pub fn load_slot(pool: &[u32], d: Sizes, j: u32) -> SlotRow
-    requires { Spans d pool.now × (j < d.h) }
-    ensures { result ≡ slot_in pool.now d j }
-{
-    let s = slot_start(j);
-    read_slot(&pool[s..s + SLOT_WORDS], d)
-}
+impl PoolMut<'_> {
+    ghost use Rattle.std.specs.Prelude.{◌≡◌, ◌<◌};
+    ghost use Rattle.layout.specs.Pool.{put_slot};
+    ghost use Rattle.pool.specs.Loans.{IsSameLoan};
 
-pub fn store_slot(pool: &mut [u32], d: Sizes, j: u32, x: Slot)
-    requires { Spans d pool.old × (j < d.h) }
-    ensures { pool.new ≡ put_slot pool.old j x }
-{
-    let s = slot_start(j);
-    write_slot(&mut pool[s..s + SLOT_WORDS], x);
+    /// Writes the slot's row.
+    #[tactic(auto, using(layout::specs::Lends::lends), unfolding(layout::specs::Parts::part, layout::specs::Parts::splice))]
+    pub fn put_slot(&mut self, slot: u32, value: Slot)
+        requires { slot < self.old.sizes.h }
+        ensures words { self.new.words.now ≡ put_slot self.old.words.now slot value }
+        ensures same { IsSameLoan self.old self.new }
+    {
+        write(&mut self.words[row(slot)], value);
+    }
 }

@@ -1,68 +1,58 @@
 // Task rows: where they lie, their words, what a call sees of them, and the ranges that the check tests.
-ghost use Rattle.std.specs.Prelude.{◌≡◌, ◌++◌, ◌+◌, ◌<◌, ◌≤◌, length, drop, get_or};
+ghost use Rattle.std.specs.Prelude.{◌≡◌, ◌++◌, ◌+◌, ◌<◌, ◌≤◌, length, drop};
 ghost use Rattle.rulebook.specs.Sizes.{most_handles, most_tasks, task_row};
-ghost use Rattle.layout.specs.Places.{Spans, task_start, task_part};
-ghost use Rattle.layout.specs.Rows.{bit_of, task_words, task_fields, task_with, task_read, stands_in, works_in, task_row_of, task_seen_of, stage_seen};
-ghost use Rattle.layout.specs.Pool.{task_in, task_seen, put_task};
+ghost use Rattle.layout.specs.Places.{task_start};
+ghost use Rattle.layout.specs.Rows.{task_words, task_fields, task_with, task_read, stands_in, works_in, task_seen_of};
 
-use super::codes::{code_of, stage_coded, stage_from};
-use super::{HANDLE_ROW, HEADER, TASK_ROW, wide};
-use acts::{StageRow, TaskRow};
-use rulebook::{Hand, Sizes, Stage, Task};
-
-const TASK_WORDS: usize = TASK_ROW as usize;
+use super::codes::stage_from;
+use super::view::{Pool, PoolMut};
+use rulebook::{Damaged, HANDLE_ROW, HEADER_WORDS, Hand, Sizes, Stage, TASK_ROW, Task};
+use std::ops::Range;
 
 // One more than a task's steps may be, as the check reads a row.
 const MOST_STEPS: u32 = 1000000000;
 
-fn bit(x: bool) -> u32
-    ensures { result ≡ bit_of x }
+// Where the row lies.
+fn row(sizes: Sizes, task: u32) -> Range<usize>
+    requires { (sizes.h ≤ most_handles) × (task < most_tasks) }
+    ensures { (result.start ≡ task_start sizes task) × (result.end ≡ task_start sizes task + task_row) × (result.end ≤ 1552) }
 {
-    if x { 1 } else { 0 }
+    let start = (HEADER_WORDS + HANDLE_ROW * sizes.h + TASK_ROW * task) as usize;
+    start..start + TASK_ROW as usize
 }
 
 // Writes the words that a task has; the others of the row stay as they are.
-fn write_task(row: &mut [u32], k: Task)
+#[tactic(auto, using(layout::specs::Ways::rowing))]
+fn write(row: &mut [u32], task: Task)
     requires { length row.old ≡ task_row }
-    ensures { row.new ≡ task_words k ++ drop task_fields row.old }
+    ensures { row.new ≡ task_words task ++ drop task_fields row.old }
 {
-    let g = k.stage;
-    let w = k.hand;
-    row[0] = code_of(g);
-    row[1] = k.slot;
-    row[2] = k.block;
-    row[3] = k.number;
-    row[4] = k.cell;
-    row[5] = k.value;
-    row[6] = k.until;
-    row[7] = k.fresh;
-    row[8] = k.target;
-    row[9] = w.cell;
-    row[10] = w.guess;
-    row[11] = w.lo;
-    row[12] = w.hi;
-    row[13] = bit(w.found);
-    row[14] = w.candidate;
-    row[15] = w.version;
-    row[16] = k.steps;
+    row[0] = u32::from(task.stage);
+    row[1] = task.slot;
+    row[2] = task.block;
+    row[3] = task.number;
+    row[4] = task.cell;
+    row[5] = task.value;
+    row[6] = task.until;
+    row[7] = task.fresh;
+    row[8] = task.target;
+    row[9] = task.hand.cell;
+    row[10] = task.hand.guess;
+    row[11] = task.hand.lo;
+    row[12] = task.hand.hi;
+    row[13] = u32::from(task.hand.found);
+    row[14] = task.hand.candidate;
+    row[15] = task.hand.version;
+    row[16] = task.steps;
 }
 
 // The task of a row, but for its stage.
-fn task_with(row: &[u32], g: Stage) -> Task
+fn read_at(row: &[u32], stage: Stage) -> Task
     requires { length row.now ≡ task_row }
-    ensures { result ≡ task_with g row.now }
+    ensures { result ≡ task_with stage row.now }
 {
-    let w = Hand {
-        cell: row[9],
-        guess: row[10],
-        lo: row[11],
-        hi: row[12],
-        found: row[13] != 0,
-        candidate: row[14],
-        version: row[15],
-    };
     Task {
-        stage: g,
+        stage,
         slot: row[1],
         block: row[2],
         number: row[3],
@@ -71,156 +61,119 @@ fn task_with(row: &[u32], g: Stage) -> Task
         until: row[6],
         fresh: row[7],
         target: row[8],
-        hand: w,
+        hand: Hand {
+            cell: row[9],
+            guess: row[10],
+            lo: row[11],
+            hi: row[12],
+            found: row[13] != 0,
+            candidate: row[14],
+            version: row[15],
+        },
         steps: row[16],
     }
 }
 
-fn task_of(row: &[u32]) -> Task
-    requires { length row.now ≡ task_row }
-    ensures { result ≡ task_read row.now }
-{
-    let g = stage_from(row[0]);
-    task_with(row, g)
-}
-
-// The numbers of the handle that a task names.
-fn stands(row: &[u32], d: Sizes) -> bool
-    requires { length row.now ≡ task_row }
-    ensures { result ≡ stands_in d (task_read row.now) }
-{
-    if d.h <= row[1] {
-        return false;
-    }
-    if d.b <= row[2] {
-        return false;
-    }
-    row[3] <= d.n
-}
-
-// The numbers of what it does.
-fn works(row: &[u32], d: Sizes) -> bool
-    requires { length row.now ≡ task_row }
-    ensures { result ≡ works_in d (task_read row.now) }
-{
-    if d.n <= row[4] {
-        return false;
-    }
-    if d.n < row[6] {
-        return false;
-    }
-    if d.h <= row[7] {
-        return false;
-    }
-    if d.b <= row[8] {
-        return false;
-    }
-    if d.n <= row[9] {
-        return false;
-    }
-    row[16] < MOST_STEPS
-}
-
-// The stage of a row whose numbers are all in their ranges.
-fn stage_of(row: &[u32], d: Sizes) -> StageRow
-    requires { length row.now ≡ task_row }
-    ensures { result ≡ stage_seen (task_row_of d row.now) }
-{
-    if !stands(row, d) {
-        return StageRow::Bad;
-    }
-    if !works(row, d) {
-        return StageRow::Bad;
-    }
-    stage_coded(row[0])
-}
-
-fn read_task(row: &[u32], d: Sizes) -> TaskRow
-    requires { length row.now ≡ task_row }
-    ensures { result ≡ task_row_of d row.now }
-{
-    let StageRow::At(g) = stage_of(row, d) else {
-        return TaskRow::Bad;
-    };
-    let k = task_with(row, g);
-    TaskRow::Row(k)
-}
-
 // The task of a row that has a stage's code.
-fn seen_task(row: &[u32]) -> TaskRow
+#[tactic(auto, unfolding(layout::specs::Rows::task_seen_of, layout::specs::Rows::task_read, rulebook::specs::Codes::stage_coded))]
+fn read(row: &[u32]) -> Result<Task, Damaged>
     requires { length row.now ≡ task_row }
     ensures { result ≡ task_seen_of row.now }
 {
-    let StageRow::At(g) = stage_coded(row[0]) else {
-        return TaskRow::Bad;
-    };
-    let k = task_with(row, g);
-    TaskRow::Row(k)
+    let stage = Stage::try_from(row[0])?;
+    Ok(read_at(row, stage))
 }
 
-fn code_in(row: &[u32]) -> u32
-    requires { length row.now ≡ task_row }
-    ensures { result ≡ get_or row.now 0 0 }
+// The numbers of the handle that it names are in their ranges.
+#[tactic(auto, unfolding(layout::specs::Rows::stands_in))]
+fn stands(task: Task, sizes: Sizes) -> bool
+    ensures { result ≡ stands_in sizes task }
 {
-    row[0]
+    task.slot < sizes.h && task.block < sizes.b && task.number <= sizes.n
 }
 
-fn task_start(d: Sizes, t: u32) -> usize
-    requires { (d.h ≤ most_handles) × (t < most_tasks) }
-    ensures { result ≡ task_start d t }
+// The numbers of what it does are in their ranges.
+#[tactic(auto, unfolding(layout::specs::Rows::works_in))]
+fn works(task: Task, sizes: Sizes) -> bool
+    ensures { result ≡ works_in sizes task }
 {
-    wide(HEADER + HANDLE_ROW * d.h + TASK_ROW * t)
+    task.cell < sizes.n
+        && task.until <= sizes.n
+        && task.fresh < sizes.h
+        && task.target < sizes.b
+        && task.hand.cell < sizes.n
+        && task.steps < MOST_STEPS
 }
 
-// Task t as it lies, whatever its ranges.
-pub fn task_at(pool: &[u32], d: Sizes, t: u32) -> Task
-    requires { Spans d pool.now × (t < d.t) }
-    ensures { result ≡ task_read (task_part pool.now d t) }
-{
-    let s = task_start(d, t);
-    task_of(&pool[s..s + TASK_WORDS])
+impl Pool<'_> {
+    ghost use Rattle.std.specs.Prelude.{◌≡◌, ◌<◌, get_or};
+    ghost use Rattle.layout.specs.Places.{task_part};
+    ghost use Rattle.layout.specs.Rows.{task_read, task_with};
+    ghost use Rattle.layout.specs.Pool.{task_in, task_seen};
+
+    /// The task as a call sees it.
+    #[tactic(auto, unfolding(layout::specs::Pool::task_seen, layout::specs::Places::task_part, layout::specs::Parts::part, layout::specs::Parts::splice), using(layout::specs::Lends::lends))]
+    pub fn task(self, task: u32) -> Result<Task, Damaged>
+        requires { task < self.sizes.t }
+        ensures { result ≡ task_seen self.entry.words.now self.entry.sizes task }
+    {
+        read(&self.words[row(self.sizes, task)])
+    }
+
+    /// The task as it lies, but for its stage.
+    #[tactic(auto, unfolding(layout::specs::Places::task_part, layout::specs::Parts::part, layout::specs::Parts::splice), using(layout::specs::Lends::lends))]
+    pub fn task_at(self, task: u32, stage: Stage) -> Task
+        requires { task < self.sizes.t }
+        ensures { result ≡ task_with stage (task_part self.entry.words.now self.entry.sizes task) }
+    {
+        read_at(&self.words[row(self.sizes, task)], stage)
+    }
+
+    /// The code of the task's stage.
+    #[tactic(auto, unfolding(layout::specs::Places::task_part, layout::specs::Parts::part, layout::specs::Parts::splice), using(layout::specs::Lends::lends))]
+    pub fn code(self, task: u32) -> u32
+        requires { task < self.sizes.t }
+        ensures { result ≡ get_or (task_part self.entry.words.now self.entry.sizes task) 0 0 }
+    {
+        self.words[row(self.sizes, task).start]
+    }
+
+    /// The task as it lies, whatever its ranges and its code.
+    #[tactic(auto, unfolding(layout::specs::Rows::task_read))]
+    pub fn raw_task(self, task: u32) -> Task
+        requires { task < self.sizes.t }
+        ensures { result ≡ task_read (task_part self.entry.words.now self.entry.sizes task) }
+    {
+        self.task_at(task, stage_from(self.code(task)))
+    }
+
+    /// The task where each of its numbers is in its range.
+    #[tactic(auto, unfolding(layout::specs::Pool::task_in, layout::specs::Pool::task_seen, layout::specs::Rows::task_row_of, layout::specs::Rows::task_fits, layout::specs::Rows::task_seen_of, layout::specs::Places::task_part, layout::specs::Parts::part, layout::specs::Parts::splice), using(layout::specs::Lends::lends))]
+    pub fn ranged_task(self, task: u32) -> Result<Task, Damaged>
+        requires { task < self.sizes.t }
+        ensures { result ≡ task_in self.entry.words.now self.entry.sizes task }
+    {
+        let found = self.task(task)?;
+        if stands(found, self.sizes) && works(found, self.sizes) {
+            Ok(found)
+        } else {
+            Err(Damaged)
+        }
+    }
 }
 
-// Task t as it lies, but for its stage.
-pub fn task_for(pool: &[u32], d: Sizes, t: u32, g: Stage) -> Task
-    requires { Spans d pool.now × (t < d.t) }
-    ensures { result ≡ task_with g (task_part pool.now d t) }
-{
-    let s = task_start(d, t);
-    task_with(&pool[s..s + TASK_WORDS], g)
-}
+impl PoolMut<'_> {
+    ghost use Rattle.std.specs.Prelude.{◌≡◌, ◌<◌};
+    ghost use Rattle.layout.specs.Pool.{put_task};
+    ghost use Rattle.pool.specs.Loans.{IsSameLoan};
 
-// The code of task t's stage.
-pub fn code_at(pool: &[u32], d: Sizes, t: u32) -> u32
-    requires { Spans d pool.now × (t < d.t) }
-    ensures { result ≡ get_or (task_part pool.now d t) 0 0 }
-{
-    let s = task_start(d, t);
-    code_in(&pool[s..s + TASK_WORDS])
-}
-
-// Task t as a call sees it.
-pub fn see_task(pool: &[u32], d: Sizes, t: u32) -> TaskRow
-    requires { Spans d pool.now × (t < d.t) }
-    ensures { result ≡ task_seen pool.now d t }
-{
-    let s = task_start(d, t);
-    seen_task(&pool[s..s + TASK_WORDS])
-}
-
-// Task t where each of its numbers is in its range.
-pub fn load_task(pool: &[u32], d: Sizes, t: u32) -> TaskRow
-    requires { Spans d pool.now × (t < d.t) }
-    ensures { result ≡ task_in pool.now d t }
-{
-    let s = task_start(d, t);
-    read_task(&pool[s..s + TASK_WORDS], d)
-}
-
-pub fn store_task(pool: &mut [u32], d: Sizes, t: u32, k: Task)
-    requires { Spans d pool.old × (t < d.t) }
-    ensures { pool.new ≡ put_task pool.old d t k }
-{
-    let s = task_start(d, t);
-    write_task(&mut pool[s..s + TASK_WORDS], k);
+    /// Writes the task's row.
+    #[tactic(auto, using(layout::specs::Lends::lends), unfolding(layout::specs::Parts::part, layout::specs::Parts::splice))]
+    pub fn put_task(&mut self, task: u32, value: Task)
+        requires { task < self.old.sizes.t }
+        ensures words { self.new.words.now ≡ put_task self.old.words.now self.old.sizes task value }
+        ensures same { IsSameLoan self.old self.new }
+    {
+        write(&mut self.words[row(self.sizes, task)], value);
+    }
 }
