@@ -1,6 +1,6 @@
 -- From a sight that shows a state every call plans what it plans from the state itself.
 -- Rests on Shown, and for a step on the rules and ranges of its task.
-use Rattle.std.specs.Prelude.{◌<◌, ℕ, not, true, ◌≡◌, ltb, if◌then◌else◌, Err, None, Ok, Result, Some, false}
+use Rattle.std.specs.Prelude.{◌<◌, ℕ, true, ◌≡◌, ltb, if◌then◌else◌, Err, None, Ok, Result, Some}
 use Rattle.std.proofs.Common.{◌∙◌, leb-false, ltb-true}
 use Rattle.std.proofs.Math.Path.{ap, ap₂, refl, subst⁻¹}
 use Rattle.std.proofs.Math.Dec.{eqb, leb}
@@ -11,7 +11,7 @@ use Rattle.rulebook.specs.declared.Sizes.{Sizes}
 use Rattle.rulebook.specs.declared.Slot.{Slot}
 use Rattle.rulebook.specs.declared.Stage.{Stage}
 use Rattle.rulebook.specs.declared.Task.{Task}
-use Rattle.acts.specs.Plans.{after, begun_on, filler, filler_in, fills_at, first_of, free_at, free_in, get_on, goes, holder_in, live_in, maker, names_at, naming, new_on, or_else, page_on, plan_get, plan_new, plan_page, plan_release, plan_set, ready_in, refused, release_at, release_on, reserves_for, set_at, set_on, stander_in, standing, stands_at, ticked, unheld, user_in, vacant, vacant_at, vacant_in}
+use Rattle.acts.specs.Plans.{after, begun_on, filler, filler_in, fills_at, first_of, free_at, free_in, get_on, goes, holder_in, live_in, maker, names_at, naming, new_on, or_else, page_on, plan_get, plan_new, plan_page, plan_release, plan_set, ready_in, refused, release_at, release_on, reserves_for, set_at, set_on, stander_in, standing, stands_at, ticked, unheld, unless, user_in, vacant, vacant_at, vacant_in}
 use Rattle.acts.specs.StepPlans.{copy_goes, fills_new, finishes, get_goes, gives_up, page_goes, plan_at, plan_row, plan_step, puts, read_entry, read_guess, read_in, read_length, read_version, reads_old, takes, writes_new}
 use Rattle.acts.specs.Sight.{Sight, sight_of}
 use Rattle.rulebook.specs.Sizes.{slot_of}
@@ -92,8 +92,8 @@ module _ {e : Sight} {s : State} (W : Shows e s) (sh : Shape s) where
   unfolding live_in sight_of
   live_alike h = rw W.sizes (by_test (leb s.sizes.h (slot_of h)) (λ q. rw q) (λ q. rw (q, W.slot (slot_of h) (leb-false _ _ q))))
 
-  start-alike : (t : ℕ) {a b : Act} → a ≡ b → (if not (eqb (ready_in e t) 0) then refused (ready_in e t) else a) ≡ (if not (eqb (ready_in f t) 0) then refused (ready_in f t) else b)
-  start-alike t h = ap₂ (λ (n : ℕ) (x : Act). if not (eqb n 0) then refused n else x) (ready-alike t) h
+  start-alike : (t : ℕ) {a b : Act} → a ≡ b → unless (ready_in e t) a ≡ unless (ready_in f t) b
+  start-alike t h = ap₂ unless (ready-alike t) h
 
   module _ (t h i v : ℕ) where
     pub new-alike : plan_new e t v ≡ plan_new (sight_of s) t v

@@ -8,13 +8,12 @@ use Rattle.std.proofs.Math.Path.{ap, ap₂, sym}
 use Rattle.std.proofs.Math.Dec.{leb}
 use Rattle.std.proofs.Math.ListN.{length}
 use borrow.Author.Tests.{eqb-true, leb-false, leb-true}
-use Rattle.acts.specs.Acts.{Found}
+use Rattle.acts.specs.Acts.{Found, is_none}
 use Rattle.rulebook.specs.declared.Reply.{Reply}
 use Rattle.rulebook.specs.declared.Sizes.{Sizes}
 use Rattle.rulebook.specs.declared.Slot.{Slot}
-use Rattle.acts.specs.Looks.{count_of, live_at, lives_at, plus, reports, sees_cell, sees_entry, sees_log, sees_report, sees_row, sees_task, sees_under, sees_version, shows, shows_entry, unseen, unseen_in}
+use Rattle.acts.specs.Looks.{count_of, live_at, lives_at, plus, reports, sees_cell, sees_entry, sees_log, sees_report, sees_row, sees_task, sees_under, sees_version, shows, shows_entry, visible, visible_in, where_visible}
 use Rattle.acts.specs.Plans.{found_if, stander_in}
-use Rattle.acts.specs.Rows.{is_none}
 use Rattle.acts.specs.Sight.{Sight, sight_of}
 use Rattle.layout.specs.Calls.{look_cell_in, look_entry_in, look_log_in, look_task_in, look_version_in, report_in, seen_in}
 use Rattle.layout.specs.Header.{header_of}
@@ -31,6 +30,8 @@ use Rattle.bridge.specs.Planned.{found_case, stander-good, stander-is}
 use Rattle.bridge.specs.Searches.{good_if, is_bad}
 use Rattle.bridge.specs.Shown.{Shows, sight-shows, sound-shape}
 use Rattle.bridge.specs.Sound.{Sound}
+use Rattle.acts.specs.declared.Refusal.{Refusal}
+use Rattle.acts.specs.declared.Refusal.TheVariants as refusal
 use Rattle.rulebook.specs.declared.Reply.TheVariants as reply
 use Rattle.rulebook.specs.declared.Status.TheVariants as status
 use Rattle.rulebook.specs.declared.Damaged.{Damaged}
@@ -93,20 +94,21 @@ refuse_both true b x y = refl
 refuse_both false b x y = refl
 
 module _ {e : Sight} {s : State} (W : Shows e s) (sh : Shape s) (r : Rules s) where
-  unseen-is : (b : ℕ) → unseen_in e b ≡ (if stood s b then 0 else 12)
-  unfolding unseen_in unseen
-  unseen-is b =
-      ap (λ (z : Sizes). if leb z.b b then 12 else unseen (stander_in e b)) W.sizes ∙ by_test (leb s.sizes.b b)
+  visible-is : (b : ℕ) → visible_in e b ≡ (if stood s b then Ok tt else Err refusal.Unseen)
+  unfolding visible_in visible
+  visible-is b =
+      ap (λ (z : Sizes). if leb z.b b then Err refusal.Unseen else visible (stander_in e b)) W.sizes ∙ by_test (leb s.sizes.b b)
       (λ q. by_test (stood s b) (λ l. absurd (omega (arith, leb-true s.sizes.b b q, stood-below s r b l))) (λ l. rw (q, l)))
-      (λ q. rw q (ap unseen (stander-alike W sh b) ∙ found_case s sh (λ (x : Found). unseen x ≡ (if stood s b then 0 else 12)) (stander_in (sight_of s) b) (stood s b) (stander-good s sh b) (stander-is s sh b) (λ l. rw l) (λ j l. rw l)))
+      (λ q. rw q (ap visible (stander-alike W sh b) ∙ found_case s sh (λ (x : Found). visible x ≡ (if stood s b then Ok tt else Err refusal.Unseen)) (stander_in (sight_of s) b) (stood s b) (stander-good s sh b) (stander-is s sh b) (λ l. rw l) (λ j l. rw l)))
 
-  look_or : (b : ℕ) (x y : Reply) → (stood s b ≡ true → x ≡ y) → (if not (eqb (unseen_in e b) 0) then reply.Refused (unseen_in e b) else x) ≡ (if not (stood s b) then reply.Refused 12 else y)
+  look_or : (b : ℕ) (x y : Reply) → (stood s b ≡ true → x ≡ y) → where_visible (visible_in e b) x ≡ (if not (stood s b) then reply.Refused 12 else y)
+  unfolding where_visible
   look_or b x y h =
-      ap (λ (n : ℕ). if not (eqb n 0) then reply.Refused n else x) (unseen-is b) ∙ by_test (stood s b) (λ l. rw l (h l)) (λ l. rw l)
+      ap (λ (z : Result Unit Refusal). where_visible z x) (visible-is b) ∙ by_test (stood s b) (λ l. rw l (h l)) (λ l. rw l)
 
   -- at a cell that is there
   cell_or : (b i : ℕ) (x y : Reply) → (stood s b ≡ true → i < s.sizes.n → x ≡ y)
-      → (if not (eqb (unseen_in e b) 0) then reply.Refused (unseen_in e b) else if leb e.sizes.n i then reply.Refused 12 else x) ≡ (if not (stood s b) then reply.Refused 12 else if leb s.sizes.n i then reply.Refused 12 else y)
+      → where_visible (visible_in e b) (if leb e.sizes.n i then reply.Refused 12 else x) ≡ (if not (stood s b) then reply.Refused 12 else if leb s.sizes.n i then reply.Refused 12 else y)
   cell_or b i x y h =
       look_or b _ _ (λ l. ap (λ (z : Sizes). if leb z.n i then reply.Refused 12 else x) W.sizes ∙ by_test (leb s.sizes.n i) (λ q. rw q) (λ q. rw q (h l (leb-false _ _ q))))
 

@@ -1,6 +1,6 @@
 -- The machine refuses with neither 1 nor 2, so on a sound pool no call does: 2 is given only where the check says no.
 -- Rests on the machine's definitions and on Bridge.
-use Rattle.std.specs.Prelude.{◌+◌, ℕ, ◌||◌, false, not, List, ◌≡◌, eqb, leb, ltb, length, if◌then◌else◌, true}
+use Rattle.std.specs.Prelude.{◌+◌, ℕ, ◌||◌, false, not, List, ◌≡◌, eqb, leb, ltb, length, if◌then◌else◌}
 use Rattle.std.proofs.Common.{true≢false, ◌∙◌, ap, sym}
 use Rattle.std.proofs.Math.Path.{refl}
 use Rattle.rulebook.specs.declared.Progress.{Progress}

@@ -1,29 +1,30 @@
 -- On the machine's state, what a call plans is what the machine does: doing the plan gives the machine's next state and answer.
 -- Rests on Searches and on the store's shape; PlannedStep has the step.
-use Rattle.std.specs.Prelude.{◌+◌, ℕ, Bool, ◌&&◌, ◌||◌, ◌≡◌, if◌then◌else◌, Err, None, Ok, Some}
+use Rattle.std.specs.Prelude.{◌+◌, ℕ, Bool, ◌&&◌, ◌||◌, ◌≡◌, if◌then◌else◌, Err, None, Ok, Result, Some}
 use Rattle.std.proofs.Math.Bool.{false, not, true}
 use Rattle.std.proofs.lemmas.Bool.{false≢true}
 use Rattle.std.proofs.Common.{true≢false, ◌∙◌}
 use Rattle.std.proofs.Math.Path.{ap, refl}
 use Rattle.std.proofs.Math.Dec.{eqb, leb, ltb}
 use borrow.Author.Tests.{le-leb, le-ltb, leb-false, leb-true, lt-ltb}
-use Rattle.acts.specs.Acts.{Act, Found}
+use Rattle.acts.specs.Acts.{Act, Found, is_none}
 use Rattle.rulebook.specs.declared.Slot.{Slot}
 use Rattle.rulebook.specs.declared.Task.{Task}
 use Rattle.acts.specs.Acted.{acted, seated, touched, turned}
-use Rattle.acts.specs.Plans.{filler, filler_in, fills_at, first_of, found_if, free_at, free_in, get_on, holder_in, live_in, live_row, maker, names_at, naming, new_on, or_else, page_on, placed, plan_get, plan_new, plan_page, plan_release, plan_set, ready_in, ready_row, refused, release_at, release_on, reserves_for, set_at, set_on, stander_in, standing, stands_at, unheld, user_in, vacant, vacant_at, vacant_in}
-use Rattle.acts.specs.Rows.{is_none}
+use Rattle.acts.specs.Plans.{filler, filler_in, fills_at, first_of, found_if, free_at, free_in, get_on, holder_in, live_in, live_row, maker, names_at, naming, new_on, or_else, page_on, placed, plan_get, plan_new, plan_page, plan_release, plan_set, ready_in, ready_row, refused, release_at, release_on, reserves_for, set_at, set_on, stander_in, standing, stands_at, unheld, unless, user_in, vacant, vacant_at, vacant_in}
 use Rattle.acts.specs.Sight.{sight_of}
+use Rattle.acts.specs.Told.{refused_as}
 use Rattle.rulebook.specs.Machine.{release}
 use Rattle.rulebook.specs.Sizes.{last_serial, serial_of, slot_of}
 use Rattle.rulebook.specs.Starts.{begun, no_slot, reserve, start_get, start_new, start_page, start_set, startable}
-use Rattle.rulebook.specs.State.{Result, State, filling, fills, free_block, free_slot, freed, held, idle, in_use, is_free, is_live, live_handle, names, slot_at, stood, task_at, with_slot, with_task}
+use Rattle.rulebook.specs.State.{State, busy, filling, fills, free_block, free_slot, freed, held, idle, in_use, is_free, is_live, live_handle, names, slot_at, stood, task_at, with_slot, with_task}
 use Rattle.rulebook.specs.Tests.{and_both, by_test}
 use Rattle.rules.proofs.Facts.{live_stood}
 use Rattle.rules.specs.Rules.{Rules}
 use Rattle.theorems.specs.Invariant.Calls.{is_live_lem}
 use Rattle.theorems.specs.Invariant.Shape.{Shape}
 use Rattle.bridge.specs.Searches.{first_good, first-lowest, first-same, good_if, is_bad, row_search}
+use Rattle.rulebook.specs.State as state
 use Rattle.rulebook.specs.declared.Stage.TheVariants as stage
 use Rattle.rulebook.specs.declared.Reading.TheVariants as reading
 use Rattle.rulebook.specs.declared.Reply.TheVariants as reply
@@ -35,14 +36,25 @@ pub acted_if : (s : State) (b : Bool) (x y : Act) → acted s (if b then x else 
 acted_if s true x y = refl
 acted_if s false x y = refl
 
-pub acted-refused : (s : State) (n : ℕ) → acted s (refused n) ≡ (s, reply.Refused n)
+pub acted-refused : (s : State) (x : Refusal) → acted s (refused x) ≡ (s, refused_as x)
 unfolding acted touched seated turned
-acted-refused s n = refl
+acted-refused s x = refl
 
 -- both sides refuse, or go on alike
-refuse_or : (s : State) (b : Bool) (n : ℕ) (a : Act) (r : Result) → (b ≡ false → acted s a ≡ r) → acted s (if b then refused n else a) ≡ (if b then (s, reply.Refused n) else r)
-refuse_or s true n a r h = acted-refused s n
-refuse_or s false n a r h = h refl
+refuse_or : (s : State) (b : Bool) (x : Refusal) (a : Act) (r : state.Result) → (b ≡ false → acted s a ≡ r) → acted s (if b then refused x else a) ≡ (if b then (s, refused_as x) else r)
+refuse_or s true x a r h = acted-refused s x
+refuse_or s false x a r h = h refl
+
+-- a test as the machine numbers it: 0 where it passes, and else the number of its refusal
+abbrev Numbered : Result Unit Refusal → ℕ → Type 0
+Numbered (Ok _) n = n ≡ 0
+Numbered (Err x) n = (refused_as x ≡ reply.Refused n) × (eqb n 0 ≡ false)
+
+-- both sides refuse at a test, or go on alike
+unless_or : (s : State) (x : Result Unit Refusal) (n : ℕ) → Numbered x n → (a : Act) (r : state.Result) → acted s a ≡ r → acted s (unless x a) ≡ (if not (eqb n 0) then (s, reply.Refused n) else r)
+unfolding unless
+unless_or s (Ok _) n q a r h = rw q h
+unless_or s (Err x) n q a r h = rw (acted-refused s x, q.0, q.1)
 
 -- ---- what the searches find
 
@@ -116,13 +128,16 @@ module _ (s : State) (sh : Shape s) where
       (λ c. rw (c, placed-is R (slot_of h) (and_both _ _ c).0))
       (λ c. rw c)))
 
-  ready-is : (t : ℕ) → ready_in (sight_of s) t ≡ startable s t
+  ready-is : (t : ℕ) → Numbered (ready_in (sight_of s) t) (startable s t)
   unfolding ready_in ready_row sight_of startable
-  ready-is t = refl
+  ready-is t =
+      by_test (leb s.sizes.t t)
+      (λ e. rw e (refl, refl))
+      (λ e. rw e (by_test (busy (task_at s t).stage) (λ b. rw b (refl, refl)) (λ b. rw b)))
 
   -- a start that may begin
-  start_or : (t : ℕ) (a : Act) (r : Result) → acted s a ≡ r → acted s (if not (eqb (ready_in (sight_of s) t) 0) then refused (ready_in (sight_of s) t) else a) ≡ (if not (eqb (startable s t) 0) then (s, reply.Refused (startable s t)) else r)
-  start_or t a r h = ap (λ (n : ℕ). acted s (if not (eqb n 0) then refused n else a)) (ready-is t) ∙ refuse_or s (not (eqb (startable s t) 0)) (startable s t) a r (λ _. h)
+  start_or : (t : ℕ) (a : Act) (r : state.Result) → acted s a ≡ r → acted s (unless (ready_in (sight_of s) t) a) ≡ (if not (eqb (startable s t) 0) then (s, reply.Refused (startable s t)) else r)
+  start_or t = unless_or s (ready_in (sight_of s) t) (startable s t) (ready-is t)
 
   module _ (t h i v : ℕ) where
     pub planned_get : Rules s → acted s (plan_get (sight_of s) t h i) ≡ start_get s t h i
@@ -131,7 +146,7 @@ module _ (s : State) (sh : Shape s) where
       where
         on : (b : Bool) → acted s (get_on (if b then Ok (slot_at s (slot_of h)) else Err refusal.Dead) (sight_of s) t h i) ≡ (if not b then (s, reply.Refused 7) else if leb s.sizes.n i then (s, reply.Refused 8) else (with_task s t (begun s h (stage.Getting reading.Guess) i 0 0 0), reply.Quiet))
         on false = refl
-        on true = refuse_or s (leb s.sizes.n i) 8 _ _ (λ _. refl)
+        on true = refuse_or s (leb s.sizes.n i) refusal.NoCell _ _ (λ _. refl)
 
     pub planned_page : Rules s → acted s (plan_page (sight_of s) t h i v) ≡ start_page s t h i v
     unfolding plan_page start_page page_on sight_of begun acted touched seated turned
@@ -139,7 +154,7 @@ module _ (s : State) (sh : Shape s) where
       where
         on : (b : Bool) → acted s (page_on (if b then Ok (slot_at s (slot_of h)) else Err refusal.Dead) (sight_of s) t h i v) ≡ (if not b then (s, reply.Refused 7) else if eqb v 0 || ltb s.sizes.n (i + v) then (s, reply.Refused 8) else (with_task s t (begun s h (stage.Paging reading.Guess) i 0 (i + v) 0), reply.Quiet))
         on false = refl
-        on true = refuse_or s (eqb v 0 || ltb s.sizes.n (i + v)) 8 _ _ (λ _. refl)
+        on true = refuse_or s (eqb v 0 || ltb s.sizes.n (i + v)) refusal.NoCell _ _ (λ _. refl)
 
     -- a slot is reserved, or there is none
     reserve_or : (k : ℕ → Task) (f : Found → Act) → f (Ok None) ≡ refused refusal.NoSlot → ((j : ℕ) → f (Ok (Some j)) ≡ reserves_for ((sight_of s).slot j) j t (k j))
@@ -160,8 +175,8 @@ module _ (s : State) (sh : Shape s) where
       where
         on : (b : Bool) → acted s (set_on (if b then Ok (slot_at s (slot_of h)) else Err refusal.Dead) (sight_of s) t h i v)
             ≡ (if not b then (s, reply.Refused 7) else if leb s.sizes.n i then (s, reply.Refused 8) else if no_slot s then (s, reply.Refused 9) else (with_task (reserve s) t (begun s h stage.Exchange i v 0 (free_slot s)), reply.Quiet))
-        on false = acted-refused s 7
-        on true = refuse_or s (leb s.sizes.n i) 8 _ _ (λ _. reserve_or (λ (j : ℕ). begun s h stage.Exchange i v 0 j) (λ (x : Found). set_at x (sight_of s) (slot_at s (slot_of h)) t h i v) refl (λ j. refl))
+        on false = acted-refused s refusal.Dead
+        on true = refuse_or s (leb s.sizes.n i) refusal.NoCell _ _ (λ _. reserve_or (λ (j : ℕ). begun s h stage.Exchange i v 0 j) (λ (x : Found). set_at x (sight_of s) (slot_at s (slot_of h)) t h i v) refl (λ j. refl))
 
   pub planned_release : Rules s → (h : ℕ) → acted s (plan_release (sight_of s) h) ≡ release s h
   unfolding plan_release release release_on release_at acted touched seated turned

@@ -15,7 +15,7 @@ use Rattle.acts.specs.Acted.{acted, seated, touched, turned}
 use Rattle.acts.specs.Plans.{free_in, goes, last_word, refused, ticked}
 use Rattle.acts.specs.StepPlans.{appends_entry, copy_goes, exchanges_on, fills_copy, fills_new, finishes, get_goes, gives_up, page_goes, page_settles, plan_at, plan_row, plan_step, puts, read_entry, read_guess, read_in, read_length, read_version, reads_old, takes, writes_new}
 use Rattle.acts.specs.Sight.{sight_of}
-use Rattle.acts.specs.Ways.{after_small}
+use Rattle.acts.specs.Laws.{after_small}
 use Rattle.rulebook.specs.Sizes.{last_serial}
 use Rattle.rulebook.specs.State.{State, block_at, entry_at, free_block, hand_of, log_at, reserves, slot_at, task_at, with_block, with_task, with_version}
 use Rattle.rulebook.specs.Steps.{aimed, counted, exchanged, filled, finished, get_step, got_copy, got_get, got_page, here_of, middle, moved, no_room, probed, probed_at, step, step_at, taken}
@@ -173,7 +173,7 @@ module _ (s : State) (sh : Shape s) (t : ℕ) where
 
   planned_at : (g : Stage) (k : Task) → Searching g k.hand → (reserves g ≡ true → (slot_at s k.fresh).serial < last_serial) → k.number < last_word → k.hand.cell < last_word → acted s (plan_at g (sight_of s) t k) ≡ step_at g s t k
   unfolding plan_at
-  planned_at stage.Idle k o p n h = unfold step_at in acted-refused s 6
+  planned_at stage.Idle k o p n h = unfold step_at in acted-refused s refusal.Idle
   planned_at stage.TakeNew k o p n h = unfold step_at in take_planned stage.FillNew k
   planned_at stage.FillNew k o p n h = fill_planned k h (p refl)
   planned_at (stage.Getting r) k o p n h = unfold step_at in (ap (λ (x : Result Progress Damaged). acted s (get_goes x t k)) (read_is r k o) ∙ get_planned _ k)
@@ -191,7 +191,7 @@ module _ (s : State) (sh : Shape s) (t : ℕ) where
   unfolding plan_step plan_row step sight_of
   planned_step h =
       acted_if s (leb s.sizes.t t) (refused refusal.NoTask) _ ∙ by_test (leb s.sizes.t t)
-      (λ e. rw e (acted-refused s 4))
+      (λ e. rw e (acted-refused s refusal.NoTask))
       (λ e. rw e (ap (λ (k : Task). acted s (plan_at (task_at s t).stage (sight_of s) t k)) (ticked-is (task_at s t) h.small.steps) ∙ at))
     where
       at : acted s (plan_at (task_at s t).stage (sight_of s) t (counted (task_at s t))) ≡ step_at (task_at s t).stage s t (counted (task_at s t))

@@ -6,9 +6,8 @@ use Rattle.std.proofs.lemmas.Bool.{false≢true}
 use Rattle.std.proofs.Common.{true≢false, ◌∙◌, ap₂, sym, arith, le-ltb, lt-ltb, ltb-false, ltb-true}
 use mathlib.Core.List.{List, [], ◌∷◌}
 use Rattle.std.proofs.Math.Path.{ap, refl}
-use Rattle.acts.specs.Acts.{Found}
+use Rattle.acts.specs.Acts.{Found, is_none}
 use Rattle.acts.specs.Plans.{first_of, found_if, or_else}
-use Rattle.acts.specs.Rows.{is_none}
 use Rattle.rulebook.specs.State.{any, lowest}
 use Rattle.rulebook.specs.Tests.{by_test, if_case}
 

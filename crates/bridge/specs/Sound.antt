@@ -1,6 +1,6 @@
 -- When the words of a pool are a sound store: the check's rules 1 to 7. Rules 2 to 6 and the tasks' part of 7 speak of the machine's state that
 -- the words show; the rest of 7 is the layout's own. Rests on rules, block and layout; nothing is proved here.
-use Rattle.std.specs.Prelude.{◌<◌, ℕ, true, List, ◌≡◌, get_or, Result, Some}
+use Rattle.std.specs.Prelude.{◌<◌, ℕ, true, List, ◌≡◌, get_or, Some}
 use Rattle.rulebook.specs.declared.Sizes.{Sizes}
 use Rattle.rulebook.specs.declared.Stage.{Stage}
 use Rattle.rulebook.specs.declared.Stage.TheVariants.{Append, Copying, Exchange, FillCopy, FillNew, Getting, Idle, Paging, Put, Read, TakeCopy, TakeNew, Write}
@@ -13,8 +13,6 @@ use Rattle.layout.specs.Rows.{task_read}
 use Rattle.rulebook.specs.State.{fills, stood, task_at}
 use Rattle.rules.specs.Paced.{Paced}
 use Rattle.rules.specs.Rules.{Rules}
-use Rattle.rulebook.specs.declared.Damaged.{Damaged}
-use Rattle.rulebook.specs.declared.Progress.{Progress}
 
 -- up to which cell a task at stage g, with cell i in hand, has filled its block
 abbrev pub filled_to : Stage → ℕ → ℕ → ℕ
@@ -23,7 +21,7 @@ filled_to TakeNew n i = 0
 filled_to FillNew n i = i
 filled_to (Getting r) n i = 0
 filled_to Exchange n i = 0
-filled_to Result Progress Damaged n i = 0
+filled_to Read n i = 0
 filled_to Append n i = 0
 filled_to Write n i = 0
 filled_to TakeCopy n i = 0

@@ -1,6 +1,6 @@
 -- Every start and release on a sound pool does the machine's, and leaves the pool sound.
 -- Rests on Alike, Planned and Doable.
-use Rattle.std.specs.Prelude.{◌+◌, ◌<◌, ℕ, ◌&&◌, ◌||◌, false, not, true, List, if◌then◌else◌, Err, None, Ok, Option, Result, Some}
+use Rattle.std.specs.Prelude.{◌+◌, ◌<◌, ℕ, ◌&&◌, ◌||◌, false, true, List, Err, None, Ok, Option, Result, Some}
 use Rattle.std.proofs.lemmas.Bool.{false≢true}
 use Rattle.std.proofs.Common.{true≢false, ◌∙◌, sym, arith}
 use Rattle.std.proofs.Math.Path.{◌≡◌, refl, subst⁻¹}
@@ -12,7 +12,7 @@ use Rattle.rulebook.specs.declared.Sizes.{Sizes}
 use Rattle.rulebook.specs.declared.Slot.{Slot}
 use Rattle.rulebook.specs.declared.Task.{Task}
 use Rattle.acts.specs.Acted.{acted}
-use Rattle.acts.specs.Plans.{answers, ends, get_on, goes, live_in, live_row, new_on, page_on, placed, plan_get, plan_new, plan_page, plan_release, plan_set, ready_in, refused, release_at, release_on, reserves_for, set_at, set_on, user_in, vacant_in}
+use Rattle.acts.specs.Plans.{answers, ends, get_on, goes, live_in, live_row, new_on, page_on, placed, plan_get, plan_new, plan_page, plan_release, plan_set, ready_in, ready_row, release_at, release_on, reserves_for, set_at, set_on, unless, user_in, vacant_in}
 use Rattle.acts.specs.Sight.{Sight, sight_of}
 use Rattle.layout.specs.Calls.{called_in, release_in, start_get_in, start_new_in, start_page_in, start_set_in}
 use Rattle.layout.specs.Header.{header_of}
@@ -20,8 +20,8 @@ use Rattle.layout.specs.Pool.{applied_in, sight, slot_near, task_near, touch_nea
 use Rattle.rulebook.specs.Machine.{Call, Get, New, Page, Release, Set, call, release}
 use Rattle.rulebook.specs.Sizes.{serial_of, slot_of}
 use Rattle.rulebook.specs.Starts.{start_get, start_new, start_page, start_set}
-use Rattle.rulebook.specs.State.{State, fills, is_live, slot_at}
-use Rattle.rulebook.specs.Tests.{by_test, if_case}
+use Rattle.rulebook.specs.State.{State, busy, fills, is_live, slot_at, task_at}
+use Rattle.rulebook.specs.Tests.{if_case}
 use Rattle.theorems.specs.Invariant.Shape.{Shape}
 use Rattle.bridge.specs.Alike.{get_alike, new-alike, page-alike, release-alike, set-alike, vacant_case}
 use Rattle.bridge.specs.Asked.{Bridged}
@@ -64,11 +64,11 @@ module _ {d : Sizes} {p : List ℕ} (S : Sound d p) where
 
   -- ---- starts
 
-  start_act : (t : ℕ) (a : Act) → (t < d.t → Doable d p a) → Doable d p (if not (eqb (ready_in f t) 0) then refused (ready_in f t) else a)
-  start_act t a h = if_case (Doable d p) (not (eqb (ready_in f t) 0)) (λ _. answers_act _) (λ e. h (below e))
-    where
-      below : not (eqb (ready_in f t) 0) ≡ false → t < d.t
-      below e = unfold ready_in sight_of view_of in by_test (leb d.t t) (λ q. absurd (true≢false (rw q at e))) (λ q. leb-false _ _ q)
+  start_act : (t : ℕ) (a : Act) → (t < d.t → Doable d p a) → Doable d p (unless (ready_in f t) a)
+  unfolding unless ready_in ready_row sight_of view_of
+  start_act t a h =
+      if_case (λ (x : Result Unit Refusal). Doable d p (unless x a)) (leb d.t t) (λ _. answers_act _) (λ e.
+      if_case (λ (x : Result Unit Refusal). Doable d p (unless x a)) (busy (task_at s t).stage) (λ _. answers_act _) (λ _. h (leb-false _ _ e)))
 
   vacant_act : (g : Found → Act) → ((j : ℕ) → j < d.h → Doable d p (g (Ok (Some j)))) → Doable d p (g (Ok None)) → Doable d p (g (vacant_in f))
   unfolding view_of

@@ -1,6 +1,6 @@
 -- Every step on a sound pool does the machine's, and leaves the pool sound: what each stage plans can be done.
 -- Rests on Working, Starting and PlannedStep; the rules say of each task where it reads, writes and fills.
-use Rattle.std.specs.Prelude.{◌+◌, ◌<◌, ℕ, false, List, ◌≡◌, eqb, leb, ltb, Err, Ok, Result, true}
+use Rattle.std.specs.Prelude.{◌+◌, ◌<◌, ℕ, false, List, ◌≡◌, eqb, leb, ltb, Err, Ok, Result}
 use Rattle.std.proofs.Common.{◌∙◌, ap, arith, eqb-true, leb-false, ltb-true}
 use Rattle.std.proofs.Math.Path.{refl, subst⁻¹}
 use Rattle.acts.specs.Acts.{Found}
@@ -12,7 +12,7 @@ use Rattle.rulebook.specs.declared.Task.{Task}
 use Rattle.acts.specs.Plans.{after, free_in, goes, ticked}
 use Rattle.acts.specs.StepPlans.{appends_entry, copy_goes, exchanges_on, fills_copy, fills_new, get_goes, gives_up, page_goes, page_settles, plan_at, plan_row, plan_step, puts, reads_old, takes, writes_new}
 use Rattle.acts.specs.Sight.{Sight, sight_of}
-use Rattle.acts.specs.Ways.{after_small}
+use Rattle.acts.specs.Laws.{after_small}
 use Rattle.block.specs.Fills.{fill-keeps, fill_next}
 use Rattle.block.specs.Sound.{Filling, Laid}
 use Rattle.layout.specs.Calls.{step_in}

@@ -29,6 +29,16 @@ header_fields = 6
 unfoldable pub headed : ℕ → ℕ → ℕ → ℕ → List ℕ
 headed n h t words = mark ∷ n ∷ h ∷ t ∷ words ∷ form ∷ []
 
+-- the names that the promises say it by
+abbrev pub Header : Type 0
+Header = Option Sizes
+
+pattern abbrev pub Good : Sizes → Header
+Good d = Some d
+
+pattern abbrev pub Bad : Header
+Bad = None
+
 -- refusal 1 is due where it is Bad
 unfoldable pub header_of : List ℕ → Option Sizes
 header_of p =

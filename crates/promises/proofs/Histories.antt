@@ -1,12 +1,11 @@
 -- A list of calls as C makes them is bridge's list of those that the machine has, with a slice that is not short; what a caller notes of them is the machine's history.
 -- Rests on Calls and on the bridge.
-use Rattle.std.specs.Prelude.{ℕ, List, [], ◌∷◌, ◌≡◌, refl, if◌then◌else◌}
+use Rattle.std.specs.Prelude.{ℕ, List, [], ◌∷◌, ◌≡◌, refl, if◌then◌else◌, Option}
 use Rattle.std.proofs.Common.{◌∙◌, sym}
 use Rattle.std.proofs.Math.Path.{ap, ap₂}
 use Rattle.bridge.specs.Asked.{Asked, Bridged, Get, LookCell, LookEntry, LookLog, LookTask, LookVersion, New, Open, Page, Release, Report, Set, Step, asked, asked_all, call_of, calls_of, sizes_after}
 use Rattle.bridge.specs.Bridge.{bridge}
 use Rattle.bridge.specs.Sound.{Sound}
-use Rattle.layout.specs.declared.Header.{Header}
 use Rattle.layout.specs.Pool.{view_of}
 use Rattle.rulebook.specs.Answers.{refusal}
 use Rattle.rulebook.specs.declared.Reply.{Reply}
@@ -80,7 +79,7 @@ told_all_lem (c ∷ cs) p = at c.call c.slice (told_all_lem cs)
 
 pub sound-state : (d : Sizes) (p : List ℕ) → Sound d p → state_in p ≡ view_of d p
 unfolding state_in state_under
-sound-state d p S = ap (λ (r : Header). state_under r p) S.header
+sound-state d p S = ap (λ (r : Option Sizes). state_under r p) S.header
 
 -- by the words in the answer slice as by the reply that they tell: a step, by what its task was started for
 step-reply : (w : Work) (t : ℕ) (a : List ℕ) (s : State) (r : Reply) (y : Past) → stepped_by w t s (refusal r) (telling r a) y ≡ stepped w t s r y

@@ -1,18 +1,16 @@
 -- Demand 1: which number is returned: on any pool before the store is looked at, on a pool that passes the check by document 01's table; and what 10 leaves and tells.
 -- Rests on Calls, the bridge and the machine's theorems.
-use Rattle.std.specs.Prelude.{◌+◌, ◌≤◌, ℕ, Bool, false, List, [], ◌∷◌, refl, eqb, leb, length, replicate, take, if◌then◌else◌}
+use Rattle.std.specs.Prelude.{◌+◌, ◌≤◌, ℕ, Bool, false, List, [], ◌∷◌, refl, eqb, leb, length, replicate, take, if◌then◌else◌, None, Option}
 use Rattle.std.proofs.Common.{true≢false, ◌∙◌, ap, sym, arith, get_or-take, le-ltb}
 use Rattle.std.proofs.Math.Path.{◌≡◌, subst⁻¹}
 use Rattle.std.proofs.lemmas.Bool.{eqb-false}
-use Rattle.acts.specs.declared.Act.{Act}
+use Rattle.acts.specs.Acts.{Act}
 use Rattle.acts.specs.Sight.{Sight}
 use Rattle.bridge.specs.Asked.{Asked, Get, LookCell, LookEntry, LookLog, LookTask, LookVersion, New, Open, Page, Release, Report, Set, Step, asked, call_of, sizes_after}
 use Rattle.bridge.specs.Bridge.{bridge}
 use Rattle.bridge.specs.Shown.{sound-shape}
 use Rattle.bridge.specs.Sound.{Sound}
 use Rattle.layout.specs.Calls.{called_in, look_cell_in, look_entry_in, look_log_in, look_task_in, look_version_in, release_in, report_in, seen_in, start_get_in, start_new_in, start_page_in, start_set_in, step_in}
-use Rattle.layout.specs.declared.Header.{Header}
-use Rattle.layout.specs.declared.Header.TheVariants as header
 use Rattle.layout.specs.Header.{header_of}
 use Rattle.layout.specs.Opened.{open_not, open-reply}
 use Rattle.layout.specs.Pool.{open_in, view_of}
@@ -64,15 +62,15 @@ open_due n h t p a l =
     subst⁻¹ (Opens (opens n h t (length p)) (room n h t (length p))) (spoken-long (Ask (Open n h t)) p a (le-ltb (length a) 16 l)) (opens-told p n h t (open_in p n h t).0 a)
 
 -- 1, whatever is planned or looked for
-called-bad : (r : Header) (p : List ℕ) (f : Sight → Act) → r ≡ header.Bad → refusal (called_in r p f).1 ≡ 1
+called-bad : (r : Option Sizes) (p : List ℕ) (f : Sight → Act) → r ≡ None → refusal (called_in r p f).1 ≡ 1
 unfolding called_in
 called-bad r p f e = rw e
 
-seen-bad : (r : Header) (p : List ℕ) (f : Sight → Reply) → r ≡ header.Bad → refusal (seen_in r p f) ≡ 1
+seen-bad : (r : Option Sizes) (p : List ℕ) (f : Sight → Reply) → r ≡ None → refusal (seen_in r p f) ≡ 1
 unfolding seen_in
 seen-bad r p f e = rw e
 
-asked-bad : (x : Asked) (p : List ℕ) → is_open x ≡ false → header_of p ≡ header.Bad → refusal (asked x p).1 ≡ 1
+asked-bad : (x : Asked) (p : List ℕ) → is_open x ≡ false → header_of p ≡ None → refusal (asked x p).1 ≡ 1
 unfolding asked start_new_in start_get_in start_set_in start_page_in step_in release_in look_version_in look_cell_in look_log_in look_entry_in look_task_in report_in
 asked-bad (Open n h t) p o e = absurd (true≢false o)
 asked-bad (New t v) p o e = called-bad (header_of p) p _ e

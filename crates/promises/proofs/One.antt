@@ -1,20 +1,20 @@
 -- Demand 1: what every call keeps, on any pool.
 -- Rests on Calls, Refusals, the plans' reach and the pool's laws.
-use Rattle.std.specs.Prelude.{◌*◌, ◌+◌, ◌-◌, ◌<◌, ◌≤◌, ℕ, true, List, ◌≡◌, refl, eqb, drop, length}
+use Rattle.std.specs.Prelude.{◌*◌, ◌+◌, ◌-◌, ◌<◌, ◌≤◌, ℕ, true, List, ◌≡◌, refl, eqb, drop, length, None, Option, Some}
 use Rattle.std.proofs.Common.{⊎_elim, ◌∙◌, subst, sym, length-append, length-drop, eqb-true, le-ltb, lt-ltb, ltb-false}
 use Rattle.std.proofs.Math.Path.{ap, subst⁻¹}
 use native.Mathlib.Omega.{arith}
 use Rattle.std.proofs.Math.ListN.{get_or-append, get_or}
 use Rattle.std.proofs.Math.Seq.{get_or-append-add, get_or-drop}
-use Rattle.acts.specs.declared.Act.{Act}
+use Rattle.acts.specs.Acts.{Act}
 use Rattle.acts.specs.Plans.{plan_get, plan_new, plan_page, plan_release, plan_set, refused}
 use Rattle.acts.specs.StepPlans.{plan_step}
+use Rattle.acts.specs.Told.{refused_as}
+use Rattle.acts.specs.declared.Refusal.{Refusal}
 use Rattle.acts.specs.Sight.{Sight}
 use Rattle.bridge.specs.Asked.{Get, LookCell, LookEntry, LookLog, LookTask, LookVersion, New, Open, Page, Release, Report, Set, Step, asked}
 use Rattle.layout.specs.Acts.{applied_answers, applied_done, applied_keeps, applied_not}
 use Rattle.layout.specs.Calls.{called_in, release_in, start_get_in, start_new_in, start_page_in, start_set_in, step_in}
-use Rattle.layout.specs.declared.Header.{Header}
-use Rattle.layout.specs.declared.Header.TheVariants as header
 use Rattle.layout.specs.Header.{header_of, sizes_in, sizes_of}
 use Rattle.layout.specs.Opened.{open-length, open_not, open-reply, open-rest}
 use Rattle.layout.specs.Places.{Spans, block_base}
@@ -38,19 +38,19 @@ use Rattle.promises.specs.Said.{Ask, Check, Outcome, Request, store_of, spoken}
 -- ---- what a call does to the pool's words
 
 -- q has as many words as p, and the same after the last block of a store of sizes d
-pub record Inside (r : Header) (p q : List ℕ) : Type 0 where
+pub record Inside (r : Option Sizes) (p q : List ℕ) : Type 0 where
   pub long : length q ≡ length p
-  pub rest : (d : Sizes) → r ≡ header.Good d → (i : ℕ) → block_base d + block_words d.n * d.b ≤ i → get_or q i 0 ≡ get_or p i 0
+  pub rest : (d : Sizes) → r ≡ Some d → (i : ℕ) → block_base d + block_words d.n * d.b ≤ i → get_or q i 0 ≡ get_or p i 0
 
 -- one store has one end
-end_same : (c d : Sizes) (i : ℕ) → header.Good d ≡ header.Good c → block_base c + block_words c.n * c.b ≤ i → block_base d + block_words d.n * d.b ≤ i
+end_same : (c d : Sizes) (i : ℕ) → ◌≡◌ {A = Option Sizes} (Some d) (Some c) → block_base c + block_words c.n * c.b ≤ i → block_base d + block_words d.n * d.b ≤ i
 end_same c d i q l = subst (λ (x : Sizes). block_base x + block_words x.n * x.b ≤ i) (sym (ap sizes q)) l
   where
-    sizes : Header → Sizes
-    sizes header.Bad = d
-    sizes (header.Good x) = x
+    sizes : Option Sizes → Sizes
+    sizes None = d
+    sizes (Some x) = x
 
-inside-same : (r : Header) (p : List ℕ) → Inside r p p
+inside-same : (r : Option Sizes) (p : List ℕ) → Inside r p p
 inside-same r p = record { long = refl; rest = λ d e i l. refl }
 
 -- refused, but not 10
@@ -83,7 +83,7 @@ applied_fair p d a f h =
     by_test (touched_in p d a.touch).1
     (λ y. absurd (accepts_not a.reply e (subst Refuses (ap (λ (z : List ℕ × Reply). z.1) (applied_done p d a y)) h)))
     (λ y. ap (λ (z : List ℕ × Reply). z.0) (applied_not p d a y)))
-    (λ (e : (n : ℕ) × (a ≡ refused n)). ap (λ (x : Act). (applied_in p d x).0) e.1 ∙ ap (λ (z : List ℕ × Reply). z.0) (applied_answers p d (reply.Refused e.0)))
+    (λ (e : (r : Refusal) × (a ≡ refused r)). ap (λ (x : Act). (applied_in p d x).0) e.1 ∙ ap (λ (z : List ℕ × Reply). z.0) (applied_answers p d (refused_as e.0)))
     f
 
 -- a call by a plan
@@ -91,14 +91,14 @@ pub record Planned (p : List ℕ) (f : Sight → Act) : Type 0 where
   pub fair : (e : Sight) → Fair (f e)
   pub reach : (d : Sizes) → Spans d p → InReach d (f (sight p d))
 
-pub record Careful (r : Header) (p : List ℕ) (z : List ℕ × Reply) : Type 0 where
+pub record Careful (r : Option Sizes) (p : List ℕ) (z : List ℕ × Reply) : Type 0 where
   pub inside : Inside r p z.0
   pub keeps : Refuses z.1 → z.0 ≡ p
 
-careful-called : (r : Header) (p : List ℕ) (f : Sight → Act) → header_of p ≡ r → Planned p f → Careful r p (called_in r p f)
+careful-called : (r : Option Sizes) (p : List ℕ) (f : Sight → Act) → header_of p ≡ r → Planned p f → Careful r p (called_in r p f)
 unfolding called_in
-careful-called header.Bad p f e g = record { inside = inside-same header.Bad p; keeps = λ _. refl }
-careful-called (header.Good d) p f e g =
+careful-called None p f e g = record { inside = inside-same None p; keeps = λ _. refl }
+careful-called (Some d) p f e g =
     let k = applied_keeps (header-spans p d e) (f (sight p d)) (g.reach d (header-spans p d e)) in
     record {
       inside = record { long = k.long; rest = λ c q i l. k.rest i (end_same c d i q l) };
@@ -106,7 +106,7 @@ careful-called (header.Good d) p f e g =
     }
 
 -- a call that only looks
-careful_look : (r : Header) (p : List ℕ) (a : Reply) → Careful r p (p, a)
+careful_look : (r : Option Sizes) (p : List ℕ) (a : Reply) → Careful r p (p, a)
 careful_look r p a = record { inside = inside-same r p; keeps = λ _. refl }
 
 careful-open : (p : List ℕ) (n h t : ℕ) → Careful (sizes_in n h t (length p)) p (open_in p n h t)

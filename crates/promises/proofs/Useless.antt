@@ -1,13 +1,11 @@
 -- Builds that do nothing useful, as document 01 lists them, and a check that always says yes: each breaks a promise, whatever else it does.
 -- Rests on Promises and on the machine's answers to a few calls, which are computed.
-use Rattle.std.specs.Prelude.{◌+◌, ◌≤◌, ℕ, false, true, List, [], ◌++◌, ◌∷◌, ◌⊎◌, ◌≡◌, refl, get_or, length, replicate}
+use Rattle.std.specs.Prelude.{◌+◌, ◌≤◌, ℕ, false, true, List, [], ◌++◌, ◌∷◌, ◌⊎◌, ◌≡◌, refl, get_or, length, replicate, None, Option, Some}
 use Rattle.std.proofs.Common.{⊎_elim, ◌∙◌, ap, sym, arith}
 use Rattle.std.proofs.lemmas.List.{length-replicate}
 use Rattle.bridge.specs.Asked.{Asked, Get, LookTask, New, Open, Set, Step, call_of}
 use Rattle.bridge.specs.Sound.{Sound}
 use Rattle.block.specs.Layout.{cell_ix}
-use Rattle.layout.specs.declared.Header.{Header}
-use Rattle.layout.specs.declared.Header.TheVariants as header
 use Rattle.layout.specs.Header.{header_of, sizes_of}
 use Rattle.layout.specs.Parts.{part}
 use Rattle.layout.specs.Places.{block_part}
@@ -231,9 +229,9 @@ no_store : (d : Sizes) → Sound d [] → ⊥
 unfolding header_of
 no_store d S = let z : ◌≡◌ {A = ℕ} 0 1 = ap good S.header in omega arith
   where
-    good : Header → ℕ
-    good header.Bad = 0
-    good (header.Good c) = 1
+    good : Option Sizes → ℕ
+    good None = 0
+    good (Some c) = 1
 
 pub not_always_yes : (f : Build) → AlwaysYes f → Promised f → ⊥
 not_always_yes f c P = let s = (P.check_sound [] slice (omega arith)).0 (c [] slice (omega arith)) in no_store s.0 s.1

@@ -4,7 +4,7 @@ use Rattle.std.specs.Prelude.{◌*◌, ◌+◌, ◌<◌, ◌≤◌, ℕ, false, 
 use Rattle.audit.specs.Check.{FirstBroken}
 use Rattle.bridge.specs.Asked.{Asked, Open, Step, call_of}
 use Rattle.bridge.specs.Sound.{Sound}
-use Rattle.layout.specs.declared.Header.TheVariants as header
+use Rattle.layout.specs.Header as header
 use Rattle.layout.specs.Header.{header_of, sizes_of}
 use Rattle.layout.specs.Places.{block_base}
 use Rattle.layout.specs.Pool.{lie_of, view_of}

@@ -4,9 +4,8 @@ use Rattle.std.specs.Prelude.{◌+◌, ℕ, Bool, ◌&&◌, ◌||◌, false, not
 use Rattle.survey.specs.Broken.{broken_in}
 use Rattle.bridge.specs.Asked.{Asked, Get, LookCell, LookEntry, LookLog, LookTask, LookVersion, New, Open, Page, Release, Report, Set, Step, call_of}
 use Rattle.layout.specs.Calls.{look_cell_in, look_entry_in, look_log_in, look_task_in, look_version_in, release_in, report_in, start_get_in, start_new_in, start_page_in, start_set_in, step_in}
-use Rattle.layout.specs.declared.Header.{Header}
-use Rattle.layout.specs.declared.Header.TheVariants as header
-use Rattle.layout.specs.Header.{header_of, sizes_in}
+use Rattle.layout.specs.Header as header
+use Rattle.layout.specs.Header.{Header, header_of, sizes_in}
 use Rattle.layout.specs.Pool.{open_in, view_of}
 use Rattle.rulebook.specs.Answers.{refusal, word}
 use Rattle.rulebook.specs.Array.{new_table, set_table}
