@@ -8,7 +8,10 @@ mod slots;
 mod stages;
 mod tasks;
 
-pub use limits::{HANDLE_ROW, HEADER_WORDS, LAST_SERIAL, MOST_BLOCKS, MOST_CELLS, MOST_HANDLES, MOST_TASKS, TASK_ROW, block_words, control_words};
+pub use limits::{
+    HANDLE_ROW, HEADER_WORDS, LAST_SERIAL, MOST_BLOCKS, MOST_CELLS, MOST_HANDLES, MOST_TASKS,
+    TASK_ROW, block_words, control_words,
+};
 
 // N, H, T, B: how many cells, handles, tasks and blocks a store has.
 #[derive(Clone, Copy, Debug, PartialEq, Eq)]
