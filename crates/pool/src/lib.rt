@@ -6,6 +6,8 @@ mod codes;
 mod headers;
 mod opening;
 mod raw;
+mod rows;
+mod searches;
 mod slots;
 mod tasks;
 mod view;

@@ -1,0 +1,6 @@
+use Rattle.acts.specs.Plans.{free_at}
+use Rattle.layout.specs.Pool.{sight}
+use Rattle.pool.proofs.view.Pool.free_block.Given as goal
+
+abbrev pub ghost-first_row : goal.ghost-first_row
+ghost-first_row a = free_at (sight a.row.0.words.now a.row.0.sizes)
