@@ -20,7 +20,7 @@ use Rattle.acts.specs.Touch as touch
 use Rattle.layout.specs.Parts.{part, splice}
 use Rattle.layout.specs.Rows.{slot_words, task_words, task_fields}
 use Rattle.layout.specs.Places.{slot_start, task_start, block_start, task_part, block_part, Spans, Small, Place}
-use Rattle.layout.specs.Pool.{put_slot, put_task, put_block, raised, put_done, touch_near, touched_in, touched_near, version_seen, cell_seen, length_seen, entry_seen}
+use Rattle.layout.specs.Pool.{put_slot, put_task, put_block, raised, put_done, touch_near, touched_in, touched_near, version_seen, cell_seen, length_seen, entry_seen, exchange_seen}
 use Rattle.layout.specs.Sizing.{room-all}
 use Rattle.layout.specs.Does.{touched_near_lem}
 use Rattle.rulebook.specs.Codes.{damaged}
@@ -212,6 +212,10 @@ module _ (d : Sizes) (p : List ℕ) (k : ℕ) where
     pub entry-near : (i j : ℕ) (r : Result Entry Damaged) → r ≡ entry_in d.n (part p s e) i j → r ≡ entry_seen p d k i j
     unfolding entry_seen
     entry-near i j r f = f ∙ rw (block-got d p k s e q, lt-ltb k d.b h)
+
+    pub exchange-near : (w : List ℕ) (r : Result Bool Damaged) (l : ℕ) → (w, r) ≡ exchange_in d.n (part p s e) l → r ≡ exchange_seen p d k l
+    unfolding exchange_seen
+    exchange-near w r l f = ap (λ (x : List ℕ × Result Bool Damaged). x.1) f ∙ rw (block-got d p k s e q, lt-ltb k d.b h)
 
 pub ruleset lends = (slot-ends, task-ends, slot-put, task-put, spans-small, near-below, place_end, place_scaled)
 

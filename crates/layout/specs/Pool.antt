@@ -61,6 +61,10 @@ unfoldable pub sight : List ℕ → Sizes → Sight
 sight p d =
     record { sizes = d; slot = slot_seen p d; task = task_seen p d; version = version_seen p d; cell = cell_seen p d; log = length_seen p d; entry = entry_seen p d }
 
+-- what an exchange of V answers: whether V was raised
+unfoldable pub exchange_seen : List ℕ → Sizes → ℕ → ℕ → Result Bool Damaged
+exchange_seen p d k l = if ltb k d.b then (exchange_in d.n (block_part p d k) l).1 else Err damaged
+
 -- as the check reads a row: each number in its range
 unfoldable pub slot_in : List ℕ → Sizes → ℕ → Result Slot Damaged
 slot_in p d j = slot_row_of d (slot_part p j)

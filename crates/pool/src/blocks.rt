@@ -94,13 +94,14 @@ impl Pool<'_> {
 impl PoolMut<'_> {
     ghost use Rattle.std.specs.Prelude.{◌≡◌, is_ok};
     ghost use Rattle.acts.specs.Touch as touch;
-    ghost use Rattle.layout.specs.Pool.{raised, touched_in};
+    ghost use Rattle.layout.specs.Pool.{exchange_seen, raised, touched_in};
     ghost use Rattle.pool.specs.Loans.{IsSameLoan};
 
     /// If V of the block is the number, V becomes one more; it answers whether it did.
-    #[tactic(auto, using(layout::specs::Lends::touches), unfolding(layout::specs::Parts::part, layout::specs::Parts::splice))]
+    #[tactic(auto, using(layout::specs::Lends::touches, layout::specs::Lends::looks), unfolding(layout::specs::Pool::exchange_seen, layout::specs::Parts::part, layout::specs::Parts::splice))]
     pub fn exchange(&mut self, block: u32, number: u32) -> Result<bool, Damaged>
         ensures words { (self.new.words.now, raised result) ≡ touched_in self.old.words.now self.old.sizes (touch.Exchange block number) }
+        ensures answer { result ≡ exchange_seen self.old.words.now self.old.sizes block number }
         ensures same { IsSameLoan self.old self.new }
     {
         let part = self.as_pool().part(block)?;

@@ -65,7 +65,7 @@ fn fits(slot: Slot, sizes: Sizes) -> bool
 }
 
 impl Pool<'_> {
-    ghost use Rattle.std.specs.Prelude.{◌≡◌, ◌<◌};
+    ghost use Rattle.std.specs.Prelude.{◌≡◌, ◌<◌, OnOk};
     ghost use Rattle.layout.specs.Places.{slot_part};
     ghost use Rattle.layout.specs.Rows.{slot_read};
     ghost use Rattle.layout.specs.Pool.{slot_in, slot_seen};
@@ -73,7 +73,8 @@ impl Pool<'_> {
     /// The slot as a call sees it.
     #[tactic(auto, unfolding(layout::specs::Pool::slot_seen, layout::specs::Places::slot_part, layout::specs::Parts::part, layout::specs::Parts::splice), using(layout::specs::Lends::lends))]
     pub fn slot(self, slot: u32) -> Result<Slot, Damaged>
-        ensures { result ≡ slot_seen self.entry.words.now self.entry.sizes slot }
+        ensures seen { result ≡ slot_seen self.entry.words.now self.entry.sizes slot }
+        ensures there { OnOk result (slot < self.entry.sizes.h) }
     {
         if self.sizes.h <= slot {
             return Err(Damaged);

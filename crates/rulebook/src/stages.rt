@@ -1,6 +1,6 @@
 // What a stage is about, and the numbers that an answer tells of it.
 ghost use Rattle.std.specs.Prelude.{◌≡◌};
-ghost use Rattle.rulebook.specs.State.{names, reserves, writes, fills};
+ghost use Rattle.rulebook.specs.State.{busy, names, reserves, writes, fills};
 ghost use Rattle.rulebook.specs.Answers.{operation, reading_code, stage_code};
 
 use super::{Reading, Stage};
@@ -20,6 +20,13 @@ impl Reading {
 }
 
 impl Stage {
+    /// The task is not idle.
+    pub fn is_busy(self) -> bool
+        ensures { result ≡ busy self }
+    {
+        !matches!(self, Stage::Idle)
+    }
+
     /// The task names a handle.
     pub fn names_handle(self) -> bool
         ensures { result ≡ names self }

@@ -1,5 +1,1 @@
-pub mod Calls
 pub mod Determined
-pub mod Named
-pub mod Releases
-pub mod Started

@@ -1,133 +1,90 @@
 // The looks and the report: they read, and write nothing.
 ghost use Rattle.std.specs.Prelude.{◌≡◌};
-ghost use Rattle.acts.specs.Looks.{unseen_in, sees_under};
-ghost use Rattle.layout.specs.Places.{Spans};
+ghost use Rattle.acts.specs.Looks.{visible_in};
+ghost use Rattle.acts.specs.Told.{reply_of};
 ghost use Rattle.layout.specs.Pool.{sight};
 ghost use Rattle.layout.specs.Calls.{look_version_in, look_cell_in, look_log_in, look_entry_in, look_task_in, report_in};
 
-use acts::searches::{reports, sees_row, shows, shows_entry, unseen};
-use block::Looked;
-use layout::Header;
-use rulebook::{Reply, Sizes};
-use work::searches::{live_handles, stander, stood_blocks};
+use acts::{Refusal, Told};
+use pool::Pool;
 
-// The refusal of a look at block b; 0 where a live handle stands on it.
-fn hidden(words: &[u32], d: Sizes, b: u32) -> u32
-    requires { Spans d words.now }
-    ensures { result ≡ unseen_in (sight words.now d) b }
+// A live handle stands on the block.
+#[tactic(auto, unfolding(acts::specs::Looks::visible_in, acts::specs::Looks::visible, layout::specs::Pool::sight))]
+fn visible(pool: Pool<'_>, block: u32) -> Result<(), Refusal>
+    ensures { result ≡ visible_in (sight pool.entry.words.now pool.entry.sizes) block }
 {
-    if d.b <= b {
-        return 12;
+    if pool.sizes.b <= block || pool.stander(block)?.is_none() {
+        return Err(Refusal::Unseen);
     }
-    let x = stander(words, d, b);
-    unseen(x)
+    Ok(())
 }
 
-// V of a block on which a live handle stands.
-pub fn look_version(words: &[u32], b: u32) -> Reply
-    ensures { result ≡ look_version_in words.now b }
+/// V of a block on which a live handle stands.
+#[tactic(auto, unfolding(layout::specs::Calls::look_version_in, layout::specs::Calls::seen_in, acts::specs::Looks::sees_version, acts::specs::Looks::where_visible, acts::specs::Looks::shows, layout::specs::Pool::sight))]
+pub fn look_version(words: &[u32], block: u32) -> Result<Told, Refusal>
+    ensures { reply_of result ≡ look_version_in words.now block }
 {
-    let Header::Good(d) = pool::header_of(words) else {
-        return Reply::Refused(1);
-    };
-    let n = hidden(words, d, b);
-    if n != 0 {
-        return Reply::Refused(n);
-    }
-    let v = pool::version(words, d, b);
-    shows(v)
+    let pool = Pool::of(words).ok_or(Refusal::NoPool)?;
+    visible(pool, block)?;
+    Ok(Told::Shown(pool.version(block)?))
 }
 
-// Its cell i.
-pub fn look_cell(words: &[u32], b: u32, i: u32) -> Reply
-    ensures { result ≡ look_cell_in words.now b i }
+/// Its cell.
+#[tactic(auto, unfolding(layout::specs::Calls::look_cell_in, layout::specs::Calls::seen_in, acts::specs::Looks::sees_cell, acts::specs::Looks::where_visible, acts::specs::Looks::shows, layout::specs::Pool::sight))]
+pub fn look_cell(words: &[u32], block: u32, cell: u32) -> Result<Told, Refusal>
+    ensures { reply_of result ≡ look_cell_in words.now block cell }
 {
-    let Header::Good(d) = pool::header_of(words) else {
-        return Reply::Refused(1);
-    };
-    let n = hidden(words, d, b);
-    if n != 0 {
-        return Reply::Refused(n);
+    let pool = Pool::of(words).ok_or(Refusal::NoPool)?;
+    visible(pool, block)?;
+    if pool.sizes.n <= cell {
+        return Err(Refusal::Unseen);
     }
-    if d.n <= i {
-        return Reply::Refused(12);
-    }
-    let v = pool::cell(words, d, b, i);
-    shows(v)
+    Ok(Told::Shown(pool.cell(block, cell)?))
 }
 
-// The length of that cell's log.
-pub fn look_log(words: &[u32], b: u32, i: u32) -> Reply
-    ensures { result ≡ look_log_in words.now b i }
+/// The length of that cell's log.
+#[tactic(auto, unfolding(layout::specs::Calls::look_log_in, layout::specs::Calls::seen_in, acts::specs::Looks::sees_log, acts::specs::Looks::where_visible, acts::specs::Looks::shows, layout::specs::Pool::sight))]
+pub fn look_log(words: &[u32], block: u32, cell: u32) -> Result<Told, Refusal>
+    ensures { reply_of result ≡ look_log_in words.now block cell }
 {
-    let Header::Good(d) = pool::header_of(words) else {
-        return Reply::Refused(1);
-    };
-    let n = hidden(words, d, b);
-    if n != 0 {
-        return Reply::Refused(n);
+    let pool = Pool::of(words).ok_or(Refusal::NoPool)?;
+    visible(pool, block)?;
+    if pool.sizes.n <= cell {
+        return Err(Refusal::Unseen);
     }
-    if d.n <= i {
-        return Reply::Refused(12);
-    }
-    let m = pool::log_length(words, d, b, i);
-    shows(m)
+    Ok(Told::Shown(pool.log_length(block, cell)?))
 }
 
-// An entry of a log whose length was read.
-fn entry_under(words: &[u32], d: Sizes, x: Looked, b: u32, i: u32, j: u32) -> Reply
-    requires { Spans d words.now }
-    ensures { result ≡ sees_under x (sight words.now d) b i j }
+/// An entry of that log.
+#[tactic(auto, unfolding(layout::specs::Calls::look_entry_in, layout::specs::Calls::seen_in, acts::specs::Looks::sees_entry, acts::specs::Looks::where_visible, acts::specs::Looks::sees_under, acts::specs::Looks::shows_entry, layout::specs::Pool::sight))]
+pub fn look_entry(words: &[u32], block: u32, cell: u32, index: u32) -> Result<Told, Refusal>
+    ensures { reply_of result ≡ look_entry_in words.now block cell index }
 {
-    let Looked::Word(m) = x else {
-        return Reply::Refused(2);
-    };
-    if m <= j {
-        return Reply::Refused(12);
+    let pool = Pool::of(words).ok_or(Refusal::NoPool)?;
+    visible(pool, block)?;
+    if pool.sizes.n <= cell || pool.log_length(block, cell)? <= index {
+        return Err(Refusal::Unseen);
     }
-    let e = pool::entry(words, d, b, i, j);
-    shows_entry(e)
+    Ok(Told::ShownEntry(pool.entry(block, cell, index)?))
 }
 
-// Its entry j.
-pub fn look_entry(words: &[u32], b: u32, i: u32, j: u32) -> Reply
-    ensures { result ≡ look_entry_in words.now b i j }
+/// The task.
+#[tactic(auto, unfolding(layout::specs::Calls::look_task_in, layout::specs::Calls::seen_in, acts::specs::Looks::sees_task, acts::specs::Looks::sees_row, layout::specs::Pool::sight))]
+pub fn look_task(words: &[u32], task: u32) -> Result<Told, Refusal>
+    ensures { reply_of result ≡ look_task_in words.now task }
 {
-    let Header::Good(d) = pool::header_of(words) else {
-        return Reply::Refused(1);
-    };
-    let n = hidden(words, d, b);
-    if n != 0 {
-        return Reply::Refused(n);
+    let pool = Pool::of(words).ok_or(Refusal::NoPool)?;
+    if pool.sizes.t <= task {
+        return Err(Refusal::NoTask);
     }
-    if d.n <= i {
-        return Reply::Refused(12);
-    }
-    let m = pool::log_length(words, d, b, i);
-    entry_under(words, d, m, b, i, j)
+    Ok(Told::ShownTask(pool.task(task)?))
 }
 
-pub fn look_task(words: &[u32], t: u32) -> Reply
-    ensures { result ≡ look_task_in words.now t }
+/// The live handles, and the blocks on which they stand.
+#[tactic(auto, unfolding(layout::specs::Calls::report_in, layout::specs::Calls::seen_in, acts::specs::Looks::sees_report, acts::specs::Looks::reports, layout::specs::Pool::sight))]
+pub fn report(words: &[u32]) -> Result<Told, Refusal>
+    ensures { reply_of result ≡ report_in words.now }
 {
-    let Header::Good(d) = pool::header_of(words) else {
-        return Reply::Refused(1);
-    };
-    if d.t <= t {
-        return Reply::Refused(4);
-    }
-    let x = pool::see_task(words, d, t);
-    sees_row(x)
-}
-
-// The live handles, and the blocks on which they stand.
-pub fn report(words: &[u32]) -> Reply
-    ensures { result ≡ report_in words.now }
-{
-    let Header::Good(d) = pool::header_of(words) else {
-        return Reply::Refused(1);
-    };
-    let x = live_handles(words, d);
-    let y = stood_blocks(words, d);
-    reports(x, y)
+    let pool = Pool::of(words).ok_or(Refusal::NoPool)?;
+    Ok(Told::Reported(pool.live_handles()?, pool.stood_blocks()?))
 }

@@ -1,249 +1,190 @@
 // The starts and the release: an idle task, a live handle, and then the rows are written.
-ghost use Rattle.std.specs.Prelude.{◌≡◌, ◌<◌};
-ghost use Rattle.acts.specs.Plans.{get_on, live_in, new_on, page_on, placed, plan_get, plan_new, plan_page, plan_release, plan_set, ready_in, reserves_for, set_at, set_on, vacant_in};
-ghost use Rattle.acts.specs.Said.{told_in};
-ghost use Rattle.layout.specs.Places.{Spans};
+ghost use Rattle.std.specs.Prelude.{◌≡◌, ◌%◌, ◌<◌, OnOk};
+ghost use Rattle.acts.specs.Plans.{begun_on, live_in, maker, placed, plan_get, plan_new, plan_page, plan_release, plan_set, ready_in, reserves_for};
+ghost use Rattle.acts.specs.Told.{reply_of, told_as};
 ghost use Rattle.layout.specs.Pool.{applied_in, sight, slot_seen};
-ghost use Rattle.store.specs.Releases.{OnBelow, freed_on};
+ghost use Rattle.pool.specs.Loans.{IsSameLoan};
 
-use acts::searches::{carries, release_refusal};
-use acts::starts::{begun_on, getter, maker};
-use acts::tasks::{freed, reserved_as};
-use acts::words::{quiet, refuses};
-use acts::{Found, Live, Said, SlotRow};
-use rulebook::{Reading, Sizes, Slot, Stage, Task};
-use work::searches::{user, vacancy};
+use acts::{Refusal, Told};
+use pool::{Pool, PoolMut};
+use rulebook::{Hand, Reading, Slot, Stage, Task};
+
+// How many handles a handle's public number tells apart: the slot is the rest.
+const SLOTS: u32 = 256;
 
 // ---- what is asked first
 
-// 4, 2 or 5; 0 where the task may start.
-fn ready(words: &[u32], d: Sizes, t: u32) -> u32
-    requires { Spans d words.now }
-    ensures { result ≡ ready_in (sight words.now d) t }
+// The task is idle.
+#[tactic(auto, unfolding(acts::specs::Plans::ready_in, acts::specs::Plans::ready_row, layout::specs::Pool::sight))]
+fn ready(pool: Pool<'_>, task: u32) -> Result<(), Refusal>
+    ensures ready { result ≡ ready_in (sight pool.entry.words.now pool.entry.sizes) task }
+    ensures there { OnOk result (task < pool.entry.sizes.t) }
 {
-    if d.t <= t {
-        return 4;
+    if pool.sizes.t <= task {
+        return Err(Refusal::NoTask);
     }
-    let c = pool::code_at(words, d, t);
-    if c == 0 {
-        return 0;
+    if pool.task(task)?.stage.is_busy() {
+        return Err(Refusal::Busy);
     }
-    if pool::is_code(c) {
-        return 5;
-    }
-    2
+    Ok(())
 }
 
-// A live handle's slot, where its block and its number can be.
-fn placed(words: &[u32], d: Sizes, x: Slot) -> Live
-    requires { Spans d words.now }
-    ensures { result ≡ placed d x }
+// The slot of the handle, where it is live with that serial, and its block and its number can be.
+#[tactic(auto, unfolding(acts::specs::Plans::live_in, acts::specs::Plans::live_row, acts::specs::Plans::placed, layout::specs::Pool::sight))]
+fn live_slot(pool: Pool<'_>, handle: u32) -> Result<Slot, Refusal>
+    ensures live { result ≡ live_in (sight pool.entry.words.now pool.entry.sizes) handle }
+    ensures there { OnOk result (handle % 256 < pool.entry.sizes.h) }
 {
-    if !pool::near(words, d, x.block) {
-        return Live::Not(2);
+    let index = handle % SLOTS;
+    if pool.sizes.h <= index {
+        return Err(Refusal::Dead);
     }
-    if d.n < x.number {
-        return Live::Not(2);
+    let slot = pool.slot(index)?;
+    if !slot.is_live() || slot.serial != handle / SLOTS {
+        return Err(Refusal::Dead);
     }
-    Live::On(x)
+    if !pool.has_block(slot.block) || pool.sizes.n < slot.number {
+        return Err(Refusal::Damaged);
+    }
+    Ok(slot)
 }
 
-// The slot of the handle h, where it is live with that serial.
-fn live_slot(words: &[u32], d: Sizes, h: u32) -> Live
-    requires { Spans d words.now }
-    ensures { result ≡ live_in (sight words.now d) h }
-{
-    let j = h % 256;
-    if d.h <= j {
-        return Live::Not(7);
-    }
-    let SlotRow::Row(x) = pool::see_slot(words, d, j) else {
-        return Live::Not(2);
-    };
-    if !carries(x, h) {
-        return Live::Not(7);
-    }
-    placed(words, d, x)
-}
+// ---- the tasks that the starts begin
 
-// Slot j is reserved for the task k, which is started.
-fn reserve(words: &mut [u32], d: Sizes, j: u32, t: u32, k: Task) -> Said
-    requires { Spans d words.old × (j < d.h) × (t < d.t) }
-    ensures { (words.new, result) ≡ told_in (applied_in words.old d (reserves_for (slot_seen words.old d j) j t k)) }
+// A task on a live handle: it takes the handle's block and number.
+fn begun(slot: Slot, handle: u32, stage: Stage, cell: u32) -> Task
+    ensures { result ≡ begun_on slot handle stage cell 0 0 0 }
 {
-    let SlotRow::Row(y) = pool::see_slot(words, d, j) else {
-        return refuses(2);
-    };
-    let z = reserved_as(y.serial);
-    pool::store_slot(words, d, j, z);
-    pool::store_task(words, d, t, k);
-    quiet()
-}
-
-// ---- new
-
-fn new_on(words: &mut [u32], d: Sizes, t: u32, v: u32) -> Said
-    requires { Spans d words.old × (t < d.t) }
-    ensures { (words.new, result) ≡ told_in (applied_in words.old d (new_on (vacant_in (sight words.old d)) (sight words.old d) t v)) }
-{
-    match vacancy(words, d) {
-        Found::Bad => refuses(2),
-        Found::At(j) => {
-            let k = maker(v, j);
-            reserve(words, d, j, t, k)
-        }
-        Found::None => refuses(9),
+    Task {
+        stage,
+        slot: handle % SLOTS,
+        block: slot.block,
+        number: slot.number,
+        cell,
+        hand: Hand::of(cell),
+        ..Task::idle()
     }
 }
 
-pub fn new_for(words: &mut [u32], d: Sizes, t: u32, v: u32) -> Said
-    requires { Spans d words.old }
-    ensures { (words.new, result) ≡ told_in (applied_in words.old d (plan_new (sight words.old d) t v)) }
+// A task that makes a table of the value, with its slot reserved.
+fn maker(value: u32, slot: u32) -> Task
+    ensures { result ≡ maker value slot }
 {
-    let n = ready(words, d, t);
-    if n != 0 {
-        return refuses(n);
-    }
-    new_on(words, d, t, v)
-}
-
-// ---- get
-
-fn get_on(words: &mut [u32], d: Sizes, x: Slot, t: u32, h: u32, i: u32) -> Said
-    requires { Spans d words.old × (t < d.t) }
-    ensures { (words.new, result) ≡ told_in (applied_in words.old d (get_on (Live.On x) (sight words.old d) t h i)) }
-{
-    if d.n <= i {
-        return refuses(8);
-    }
-    let k = getter(x, h, i);
-    pool::store_task(words, d, t, k);
-    quiet()
-}
-
-pub fn get_for(words: &mut [u32], d: Sizes, t: u32, h: u32, i: u32) -> Said
-    requires { Spans d words.old }
-    ensures { (words.new, result) ≡ told_in (applied_in words.old d (plan_get (sight words.old d) t h i)) }
-{
-    let n = ready(words, d, t);
-    if n != 0 {
-        return refuses(n);
-    }
-    match live_slot(words, d, h) {
-        Live::Not(m) => refuses(m),
-        Live::On(x) => get_on(words, d, x, t, h, i),
+    Task {
+        stage: Stage::TakeNew,
+        value,
+        fresh: slot,
+        ..Task::idle()
     }
 }
 
-// ---- set
-
-fn set_at(words: &mut [u32], d: Sizes, x: Slot, t: u32, h: u32, i: u32, v: u32) -> Said
-    requires { Spans d words.old × (t < d.t) }
-    ensures { (words.new, result) ≡ told_in (applied_in words.old d (set_at (vacant_in (sight words.old d)) (sight words.old d) x t h i v)) }
+// The slot is reserved for the task, which is started.
+#[tactic(auto, unfolding(acts::specs::Plans::reserves_for), using(work::proofs::Doing::doing))]
+fn reserve(pool: &mut PoolMut<'_>, slot: u32, task: u32, begun: Task) -> Result<Told, Refusal>
+    requires { task < pool.old.sizes.t }
+    ensures words { (pool.new.words.now, reply_of result) ≡ applied_in pool.old.words.now pool.old.sizes (reserves_for (slot_seen pool.old.words.now pool.old.sizes slot) slot task begun) }
+    ensures same { IsSameLoan pool.old pool.new }
 {
-    match vacancy(words, d) {
-        Found::Bad => refuses(2),
-        Found::At(j) => {
-            let k = begun_on(x, h, Stage::Exchange, i, v, 0, j);
-            reserve(words, d, j, t, k)
-        }
-        Found::None => refuses(9),
-    }
+    let vacant = pool.as_pool().slot(slot)?;
+    pool.put_slot(slot, Slot::reserved(vacant.serial));
+    pool.put_task(task, begun);
+    Ok(Told::Quiet)
 }
 
-fn set_on(words: &mut [u32], d: Sizes, x: Slot, t: u32, h: u32, i: u32, v: u32) -> Said
-    requires { Spans d words.old × (t < d.t) }
-    ensures { (words.new, result) ≡ told_in (applied_in words.old d (set_on (Live.On x) (sight words.old d) t h i v)) }
+// ---- the starts
+
+/// A new table.
+#[tactic(auto, unfolding(acts::specs::Plans::plan_new, acts::specs::Plans::new_on, acts::specs::Plans::unless, layout::specs::Pool::sight), using(work::proofs::Doing::doing))]
+pub fn new(pool: &mut PoolMut<'_>, task: u32, value: u32) -> Result<Told, Refusal>
+    ensures words { (pool.new.words.now, reply_of result) ≡ applied_in pool.old.words.now pool.old.sizes (plan_new (sight pool.old.words.now pool.old.sizes) task value) }
+    ensures same { IsSameLoan pool.old pool.new }
 {
-    if d.n <= i {
-        return refuses(8);
-    }
-    set_at(words, d, x, t, h, i, v)
+    ready(pool.as_pool(), task)?;
+    let slot = pool.as_pool().vacancy()?.ok_or(Refusal::NoSlot)?;
+    reserve(pool, slot, task, maker(value, slot))
 }
 
-pub fn set_for(words: &mut [u32], d: Sizes, t: u32, h: u32, i: u32, v: u32) -> Said
-    requires { Spans d words.old }
-    ensures { (words.new, result) ≡ told_in (applied_in words.old d (plan_set (sight words.old d) t h i v)) }
+/// A get: the guess is read first.
+#[tactic(auto, unfolding(acts::specs::Plans::plan_get, acts::specs::Plans::get_on, acts::specs::Plans::unless, layout::specs::Pool::sight), using(work::proofs::Doing::doing))]
+pub fn get(pool: &mut PoolMut<'_>, task: u32, handle: u32, cell: u32) -> Result<Told, Refusal>
+    ensures words { (pool.new.words.now, reply_of result) ≡ applied_in pool.old.words.now pool.old.sizes (plan_get (sight pool.old.words.now pool.old.sizes) task handle cell) }
+    ensures same { IsSameLoan pool.old pool.new }
 {
-    let n = ready(words, d, t);
-    if n != 0 {
-        return refuses(n);
+    ready(pool.as_pool(), task)?;
+    let slot = live_slot(pool.as_pool(), handle)?;
+    if pool.sizes.n <= cell {
+        return Err(Refusal::NoCell);
     }
-    match live_slot(words, d, h) {
-        Live::Not(m) => refuses(m),
-        Live::On(x) => set_on(words, d, x, t, h, i, v),
-    }
-}
-
-// ---- page
-
-// The sum is taken only where it can not wrap.
-fn page_on(words: &mut [u32], d: Sizes, x: Slot, t: u32, h: u32, from: u32, count: u32) -> Said
-    requires { Spans d words.old × (t < d.t) }
-    ensures { (words.new, result) ≡ told_in (applied_in words.old d (page_on (Live.On x) (sight words.old d) t h from count)) }
-{
-    if count == 0 {
-        return refuses(8);
-    }
-    if d.n < count {
-        return refuses(8);
-    }
-    if d.n - count < from {
-        return refuses(8);
-    }
-    let k = begun_on(
-        x,
-        h,
-        Stage::Paging(Reading::Guess),
-        from,
-        0,
-        from + count,
-        0,
+    pool.put_task(
+        task,
+        begun(slot, handle, Stage::Getting(Reading::Guess), cell),
     );
-    pool::store_task(words, d, t, k);
-    quiet()
+    Ok(Told::Quiet)
 }
 
-pub fn page_for(words: &mut [u32], d: Sizes, t: u32, h: u32, from: u32, count: u32) -> Said
-    requires { Spans d words.old }
-    ensures { (words.new, result) ≡ told_in (applied_in words.old d (plan_page (sight words.old d) t h from count)) }
+/// A set: the exchange is first.
+#[tactic(auto, unfolding(acts::specs::Plans::plan_set, acts::specs::Plans::set_on, acts::specs::Plans::set_at, acts::specs::Plans::unless, layout::specs::Pool::sight), using(work::proofs::Doing::doing))]
+pub fn set(
+    pool: &mut PoolMut<'_>,
+    task: u32,
+    handle: u32,
+    cell: u32,
+    value: u32,
+) -> Result<Told, Refusal>
+    ensures words { (pool.new.words.now, reply_of result) ≡ applied_in pool.old.words.now pool.old.sizes (plan_set (sight pool.old.words.now pool.old.sizes) task handle cell value) }
+    ensures same { IsSameLoan pool.old pool.new }
 {
-    let n = ready(words, d, t);
-    if n != 0 {
-        return refuses(n);
+    ready(pool.as_pool(), task)?;
+    let slot = live_slot(pool.as_pool(), handle)?;
+    if pool.sizes.n <= cell {
+        return Err(Refusal::NoCell);
     }
-    match live_slot(words, d, h) {
-        Live::Not(m) => refuses(m),
-        Live::On(x) => page_on(words, d, x, t, h, from, count),
+    let fresh = pool.as_pool().vacancy()?.ok_or(Refusal::NoSlot)?;
+    let setter = Task {
+        value,
+        fresh,
+        ..begun(slot, handle, Stage::Exchange, cell)
+    };
+    reserve(pool, fresh, task, setter)
+}
+
+/// A page of so many cells. The sum is taken only where it can not wrap.
+#[tactic(auto, unfolding(acts::specs::Plans::plan_page, acts::specs::Plans::page_on, acts::specs::Plans::unless, layout::specs::Pool::sight), using(work::proofs::Doing::doing))]
+pub fn page(
+    pool: &mut PoolMut<'_>,
+    task: u32,
+    handle: u32,
+    from: u32,
+    count: u32,
+) -> Result<Told, Refusal>
+    ensures words { (pool.new.words.now, reply_of result) ≡ applied_in pool.old.words.now pool.old.sizes (plan_page (sight pool.old.words.now pool.old.sizes) task handle from count) }
+    ensures same { IsSameLoan pool.old pool.new }
+{
+    ready(pool.as_pool(), task)?;
+    let slot = live_slot(pool.as_pool(), handle)?;
+    if count == 0 || pool.sizes.n < count || pool.sizes.n - count < from {
+        return Err(Refusal::NoCell);
     }
+    let pager = Task {
+        until: from + count,
+        ..begun(slot, handle, Stage::Paging(Reading::Guess), from)
+    };
+    pool.put_task(task, pager);
+    Ok(Told::Quiet)
 }
 
 // ---- release
 
-// The slot is free; its serial stays.
-fn release_on(words: &mut [u32], d: Sizes, x: Live, h: u32) -> Said
-    requires { Spans d words.old × OnBelow x h d.h }
-    ensures { (words.new, result) ≡ freed_on words.old x h }
+/// The slot of the handle is free; its serial stays.
+#[tactic(auto, unfolding(acts::specs::Plans::plan_release, acts::specs::Plans::release_on, acts::specs::Plans::release_at, acts::specs::Plans::unless, layout::specs::Pool::sight), using(work::proofs::Doing::doing))]
+pub fn release(pool: &mut PoolMut<'_>, handle: u32) -> Result<Told, Refusal>
+    ensures words { (pool.new.words.now, reply_of result) ≡ applied_in pool.old.words.now pool.old.sizes (plan_release (sight pool.old.words.now pool.old.sizes) handle) }
+    ensures same { IsSameLoan pool.old pool.new }
 {
-    match x {
-        Live::Not(m) => refuses(m),
-        Live::On(y) => {
-            let free = freed(y.serial);
-            pool::store_slot(words, d, h % 256, free);
-            quiet()
-        }
+    let slot = live_slot(pool.as_pool(), handle)?;
+    if pool.as_pool().user(handle % SLOTS)?.is_some() {
+        return Err(Refusal::InUse);
     }
-}
-
-pub fn release_for(words: &mut [u32], d: Sizes, h: u32) -> Said
-    requires { Spans d words.old }
-    ensures { (words.new, result) ≡ told_in (applied_in words.old d (plan_release (sight words.old d) h)) }
-{
-    let x = live_slot(words, d, h);
-    let z = user(words, d, h % 256);
-    let n = release_refusal(x, z);
-    if n != 0 {
-        return refuses(n);
-    }
-    release_on(words, d, x, h)
+    pool.put_slot(handle % SLOTS, Slot::free(slot.serial));
+    Ok(Told::Quiet)
 }

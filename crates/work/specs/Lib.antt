@@ -1,10 +1,3 @@
-pub mod Asked
-pub mod Scans
-pub mod Reach
 pub mod Stepped
-pub mod Seen
-pub mod Coded
-pub mod Stages
-pub mod Works
-pub mod News
-pub mod Sets
+pub mod Turns
+pub mod Reach

@@ -12,7 +12,7 @@ use Rattle.rulebook.specs.declared.Sizes.{Sizes}
 use Rattle.rulebook.specs.declared.Slot.{Slot}
 use Rattle.rulebook.specs.declared.Stage.{Stage}
 use Rattle.rulebook.specs.declared.Task.{Task}
-use Rattle.acts.specs.Plans.{after, ends, first_of, found_if, free_in, get_on, goes, live_in, new_on, or_else, page_on, plan_get, plan_new, plan_page, plan_release, plan_set, ready_in, refused, release_at, release_on, reserves_for, set_at, set_on, ticked, user_in, vacant, vacant_at, vacant_in}
+use Rattle.acts.specs.Plans.{after, ends, first_of, found_if, free_in, get_on, goes, live_in, new_on, or_else, page_on, plan_get, plan_new, plan_page, plan_release, plan_set, ready_in, refused, release_at, release_on, reserves_for, set_at, set_on, ticked, unless, user_in, vacant, vacant_at, vacant_in}
 use Rattle.acts.specs.StepPlans.{appends_entry, copy_goes, exchanges_on, fills_copy, fills_new, finishes, get_goes, gives_up, page_goes, page_settles, plan_at, plan_row, plan_step, puts, read_in, reads_old, takes, writes_new}
 use Rattle.acts.specs.Sight.{Sight}
 use Rattle.layout.specs.Places.{Spans, slot_part}
@@ -21,7 +21,6 @@ use Rattle.layout.specs.Rows.{slot_seen_of}
 use Rattle.rulebook.specs.Sizes.{last_serial, slot_of}
 use Rattle.rulebook.specs.State.{idle, is_free}
 use Rattle.rulebook.specs.Tests.{by_test, if_case}
-use Rattle.work.specs.Asked.{FoundBelow}
 use Rattle.acts.specs.Touch as touch
 use Rattle.rulebook.specs.declared.Stage.TheVariants as stage
 use Rattle.rulebook.specs.declared.Reading.TheVariants as reading
@@ -33,6 +32,12 @@ use Rattle.acts.specs.declared.Refusal.{Refusal}
 use Rattle.acts.specs.declared.Refusal.TheVariants as refusal
 
 -- ---- what is found is among the rows that were tried
+
+-- a place that was found is below m
+abbrev pub FoundBelow : Found → ℕ → Type 0
+FoundBelow (Err _) m = Unit
+FoundBelow (Ok (Some j)) m = j < m
+FoundBelow (Ok None) m = Unit
 
 -- a row's answer names the row
 abbrev pub Names : Found → ℕ → Type 0
@@ -75,7 +80,7 @@ module _ (d : Sizes) where
   Within (Err _) j = Unit
   Within (Ok y) j = j < d.h
 
-  pub reach-refused : (n : ℕ) → InReach d (refused n)
+  pub reach-refused : (n : Refusal) → InReach d (refused n)
   unfolding slot_near task_near
   reach-refused n = record { slot = refl; task = refl }
 
@@ -157,25 +162,33 @@ module _ (p : List ℕ) (d : Sizes) (sp : Spans d p) where
       if_case (λ (y : Result Slot Damaged). Within d y j) (ltb j d.h)
       (λ o. if_case (λ (y : Result Slot Damaged). Within d y j) (ltb (get_or (slot_part p j) 1 0) 3) (λ _. ltb-true j d.h o) (λ _. tt)) (λ o. tt)
 
-  ready-below : (t : ℕ) → not (eqb (ready_in (sight p d) t) 0) ≡ false → t < d.t
+  ready-below : (t : ℕ) → ready_in (sight p d) t ≡ Ok tt → t < d.t
   unfolding ready_in sight
-  ready-below t h = by_test (leb d.t t) (λ e. absurd (true≢false (rw e at h))) (λ e. leb-false d.t t e)
+  ready-below t h =
+      by_test (leb d.t t)
+      (λ b. let q : ◌≡◌ {A = Result Unit Refusal} (Err refusal.NoTask) (Ok tt) = (rw b at h) in let z : ◌≡◌ {A = ℕ} 0 1 = cc in absurd (omega arith))
+      (λ b. leb-false d.t t b)
 
   module _ (t : ℕ) where
-    starts : (a : Act) → (t < d.t → InReach d a) → InReach d (if not (eqb (ready_in (sight p d) t) 0) then refused (ready_in (sight p d) t) else a)
-    starts a h = reach_if d (not (eqb (ready_in (sight p d) t) 0)) _ a (λ _. reach-refused d _) (λ e. h (ready-below t e))
+    starts : (a : Act) → (t < d.t → InReach d a) → InReach d (unless (ready_in (sight p d) t) a)
+    unfolding unless
+    starts a h = at (ready_in (sight p d) t) refl
+      where
+        at : (r : Result Unit Refusal) → ready_in (sight p d) t ≡ r → InReach d (unless r a)
+        at (Ok tt) e = h (ready-below t e)
+        at (Err x) e = reach-refused d x
 
     reach-new : (x : Found) (v : ℕ) → FoundBelow x d.h → t < d.t → InReach d (new_on x (sight p d) t v)
     unfolding new_on
-    reach-new (Err _) v n h = reach-refused d 2
+    reach-new (Err _) v n h = reach-refused d refusal.Damaged
     reach-new (Ok (Some j)) v n h = reach-reserve d t h ((sight p d).slot j) j _ n
-    reach-new (Ok None) v n h = reach-refused d 9
+    reach-new (Ok None) v n h = reach-refused d refusal.NoSlot
 
     reach-set : (x : Found) (y : Slot) (g i v : ℕ) → FoundBelow x d.h → t < d.t → InReach d (set_at x (sight p d) y t g i v)
     unfolding set_at
-    reach-set (Err _) y g i v n h = reach-refused d 2
+    reach-set (Err _) y g i v n h = reach-refused d refusal.Damaged
     reach-set (Ok (Some j)) y g i v n h = reach-reserve d t h ((sight p d).slot j) j _ n
-    reach-set (Ok None) y g i v n h = reach-refused d 9
+    reach-set (Ok None) y g i v n h = reach-refused d refusal.NoSlot
 
     pub new_reaches : (v : ℕ) → InReach d (plan_new (sight p d) t v)
     unfolding plan_new
@@ -185,17 +198,17 @@ module _ (p : List ℕ) (d : Sizes) (sp : Spans d p) where
       get_on_lem : (x : Result Slot Refusal) → t < d.t → InReach d (get_on x (sight p d) t g i)
       unfolding get_on
       get_on_lem (Err n) h = reach-refused d n
-      get_on_lem (Ok y) h = reach_if d (leb (sight p d).sizes.n i) _ _ (λ _. reach-refused d 8) (λ _. reach-goes d touch.Nothing t _ _ h)
+      get_on_lem (Ok y) h = reach_if d (leb (sight p d).sizes.n i) _ _ (λ _. reach-refused d refusal.NoCell) (λ _. reach-goes d touch.Nothing t _ _ h)
 
       set_on_lem : (x : Result Slot Refusal) → t < d.t → InReach d (set_on x (sight p d) t g i v)
       unfolding set_on
       set_on_lem (Err n) h = reach-refused d n
-      set_on_lem (Ok y) h = reach_if d (leb (sight p d).sizes.n i) _ _ (λ _. reach-refused d 8) (λ _. reach-set (vacant_in (sight p d)) y g i v (vacant-below p d) h)
+      set_on_lem (Ok y) h = reach_if d (leb (sight p d).sizes.n i) _ _ (λ _. reach-refused d refusal.NoCell) (λ _. reach-set (vacant_in (sight p d)) y g i v (vacant-below p d) h)
 
       page_on_lem : (x : Result Slot Refusal) → t < d.t → InReach d (page_on x (sight p d) t g i v)
       unfolding page_on
       page_on_lem (Err n) h = reach-refused d n
-      page_on_lem (Ok y) h = reach_if d (eqb v 0 || ltb (sight p d).sizes.n (i + v)) _ _ (λ _. reach-refused d 8) (λ _. reach-goes d touch.Nothing t _ _ h)
+      page_on_lem (Ok y) h = reach_if d (eqb v 0 || ltb (sight p d).sizes.n (i + v)) _ _ (λ _. reach-refused d refusal.NoCell) (λ _. reach-goes d touch.Nothing t _ _ h)
 
       pub get_reaches : InReach d (plan_get (sight p d) t g i)
       unfolding plan_get
@@ -211,17 +224,17 @@ module _ (p : List ℕ) (d : Sizes) (sp : Spans d p) where
 
     row_on : (x : Result Task Damaged) → t < d.t → InReach d (plan_row x (sight p d) t)
     unfolding plan_row sight ticked
-    row_on (Err _) h = reach-refused d 2
+    row_on (Err _) h = reach-refused d refusal.Damaged
     row_on (Ok k) h = reach-at d t h k.stage (sight p d) (ticked k) (slot-within k.fresh)
 
     pub step_reaches : InReach d (plan_step (sight p d) t)
     unfolding plan_step sight
-    step_reaches = reach_if d (leb d.t t) _ _ (λ _. reach-refused d 4) (λ e. row_on (task_seen p d t) (leb-false d.t t e))
+    step_reaches = reach_if d (leb d.t t) _ _ (λ _. reach-refused d refusal.NoTask) (λ e. row_on (task_seen p d t) (leb-false d.t t e))
 
   release_at_lem : (x : Found) (y : Slot) (h : ℕ) → slot_of h < d.h → InReach d (release_at x y h)
   unfolding release_at slot_near task_near
-  release_at_lem (Err _) y h n = reach-refused d 2
-  release_at_lem (Ok (Some t)) y h n = reach-refused d 11
+  release_at_lem (Err _) y h n = reach-refused d refusal.Damaged
+  release_at_lem (Ok (Some t)) y h n = reach-refused d refusal.InUse
   release_at_lem (Ok None) y h n = record { slot = lt-ltb (slot_of h) d.h n; task = refl }
 
   live_below : (h : ℕ) (x : Result Slot Refusal) → live_in (sight p d) h ≡ x → InReach d (release_on x (sight p d) h)

@@ -1,140 +1,112 @@
 // The steps of a get: of a get itself, of a copy and of a page. Each reads one word of the block, and goes on or settles.
-ghost use Rattle.std.specs.Prelude.{◌≡◌};
-ghost use Rattle.acts.specs.StepPlans.{stage_for};
-ghost use Rattle.work.specs.Stepped.{Held, bounded_at, got_at, paged_at, settled_at, step_at, task_up};
+use super::turn::Turn;
+use acts::{Reader, Refusal, Told, after};
+use rulebook::{Hand, Reading, Stage, Task};
 
-use super::tasks::{rest, task_in, turn};
-use acts::reading::{middle, probed};
-use acts::tasks::{after, answer, guessed, hand_of, searching, stage_for};
-use acts::words::{got, handed, handed_last, refuses};
-use acts::{Reader, Said};
-use block::{Looked, Probed};
-use rulebook::{Hand, Reading, Sizes, Stage};
+impl Turn<'_> {
+    ghost use Rattle.std.specs.Prelude.{◌≡◌, Ok};
+    ghost use Rattle.rulebook.specs.declared.Progress.TheVariants as progress;
+    ghost use Rattle.acts.specs.StepPlans.{after_bounds, goes_on, page_settles, stage_for};
+    ghost use Rattle.acts.specs.Told.{reply_of, told_as};
+    ghost use Rattle.layout.specs.Pool.{applied_in};
+    ghost use Rattle.work.specs.Stepped.{step_at};
+    ghost use Rattle.work.specs.Turns.{IsSameTurn};
 
-// ---- the cell in hand is settled
+    // ---- the cell in hand is settled
 
-fn get_settles(words: &mut [u32], d: Sizes, t: u32, v: u32) -> Said
-    requires { Held d words.old t }
-    ensures { (words.new, result) ≡ got_at words.old d t v }
-{
-    let k = task_in(words, d, t);
-    let w = k.hand;
-    rest(words, d, t);
-    got(k.steps, w.cell, v)
-}
-
-// The step that settles a cell hands it out; the last one ends the page.
-fn page_settles(words: &mut [u32], d: Sizes, t: u32, v: u32) -> Said
-    requires { Held d words.old t }
-    ensures { (words.new, result) ≡ paged_at words.old d t v }
-{
-    let k = task_in(words, d, t);
-    let w = k.hand;
-    let next = after(w.cell);
-    if next == k.until {
-        rest(words, d, t);
-        return handed_last(k.steps, w.cell, v);
-    }
-    let q = hand_of(next);
-    turn(words, d, t, Stage::Paging(Reading::Guess), q);
-    handed(w.cell, v)
-}
-
-fn settles(words: &mut [u32], d: Sizes, t: u32, o: Reader, w: Hand) -> Said
-    requires { Held d words.old t × (w.cell ≡ (task_up words.old d t).hand.cell) }
-    ensures { (words.new, result) ≡ settled_at words.old d t o w }
-{
-    match o {
-        Reader::Get => {
-            let v = answer(w);
-            get_settles(words, d, t, v)
+    // The step that settles a cell hands it out; the last one ends the page.
+    #[tactic(auto, unfolding(acts::specs::StepPlans::page_settles), using(crate::proofs::Doing::doing))]
+    fn settle_page(&mut self, task: Task, hand: Hand) -> Told
+        ensures words { (self.new.pool.words.now, told_as result) ≡ applied_in self.old.pool.words.now self.old.pool.sizes (page_settles hand self.old.task task) }
+        ensures same { IsSameTurn self.old self.new }
+    {
+        let value = hand.answer();
+        let next = after(hand.cell);
+        if next == task.until {
+            self.rest();
+            return Told::HandedLast(task.steps, hand.cell, value);
         }
-        Reader::Copy => turn(words, d, t, Stage::FillCopy, w),
-        Reader::Page => {
-            let v = answer(w);
-            page_settles(words, d, t, v)
+        self.go_on(task.moved(Stage::Paging(Reading::Guess), Hand::of(next)));
+        Told::Handed(hand.cell, value)
+    }
+
+    #[tactic(auto, unfolding(acts::specs::StepPlans::goes_on, acts::specs::StepPlans::get_goes, acts::specs::StepPlans::copy_goes, acts::specs::StepPlans::page_goes), using(crate::proofs::Doing::doing))]
+    fn settle(&mut self, reader: Reader, task: Task, hand: Hand) -> Told
+        ensures words { (self.new.pool.words.now, told_as result) ≡ applied_in self.old.pool.words.now self.old.pool.sizes (goes_on reader (Ok (progress.Settled hand)) self.old.task task) }
+        ensures same { IsSameTurn self.old self.new }
+    {
+        match reader {
+            Reader::Get => {
+                self.rest();
+                Told::Got(task.steps, hand.cell, hand.answer())
+            }
+            Reader::Copy => self.go_on(task.moved(Stage::FillCopy, hand)),
+            Reader::Page => self.settle_page(task, hand),
         }
     }
-}
 
-// ---- one step each
+    // ---- one step each
 
-// First: read the cell, the guess.
-pub fn step_guess(words: &mut [u32], d: Sizes, t: u32, o: Reader) -> Said
-    requires { Held d words.old t }
-    ensures { (words.new, result) ≡ step_at words.old d t (stage_for o Reading.Guess) }
-{
-    let k = task_in(words, d, t);
-    let w = k.hand;
-    let Looked::Word(v) = pool::cell(words, d, k.block, w.cell) else {
-        return refuses(2);
-    };
-    let q = guessed(w, v);
-    let g = stage_for(o, Reading::Version);
-    turn(words, d, t, g, q)
-}
-
-// Second: read V; if V = L the guess is the answer.
-pub fn step_version(words: &mut [u32], d: Sizes, t: u32, o: Reader) -> Said
-    requires { Held d words.old t }
-    ensures { (words.new, result) ≡ step_at words.old d t (stage_for o Reading.Version) }
-{
-    let k = task_in(words, d, t);
-    let w = k.hand;
-    let Looked::Word(v) = pool::version(words, d, k.block) else {
-        return refuses(2);
-    };
-    if v == k.number {
-        return settles(words, d, t, o, w);
+    /// First: read the cell, the guess.
+    #[tactic(auto, unfolding(acts::specs::StepPlans::read_in, acts::specs::StepPlans::read_guess, layout::specs::Pool::sight), using(crate::proofs::Stages::readings))]
+    pub fn step_guess(&mut self, reader: Reader) -> Result<Told, Refusal>
+        ensures words { (self.new.pool.words.now, reply_of result) ≡ step_at self.old.pool.words.now self.old.pool.sizes self.old.task (stage_for reader Reading.Guess) }
+        ensures same { IsSameTurn self.old self.new }
+    {
+        let task = self.counted();
+        let value = self.pool.as_pool().cell(task.block, task.hand.cell)?;
+        let stage = reader.stage(Reading::Version);
+        Ok(self.go_on(task.moved(stage, task.hand.guessed(value))))
     }
-    let g = stage_for(o, Reading::Length);
-    turn(words, d, t, g, w)
-}
 
-// Third: read the log's length; if 0, the guess is the answer.
-pub fn step_length(words: &mut [u32], d: Sizes, t: u32, o: Reader) -> Said
-    requires { Held d words.old t }
-    ensures { (words.new, result) ≡ step_at words.old d t (stage_for o Reading.Length) }
-{
-    let k = task_in(words, d, t);
-    let w = k.hand;
-    let Looked::Word(m) = pool::log_length(words, d, k.block, w.cell) else {
-        return refuses(2);
-    };
-    if m == 0 {
-        return settles(words, d, t, o, w);
+    /// Second: read V; if V = L the guess is the answer.
+    #[tactic(auto, unfolding(acts::specs::StepPlans::read_in, acts::specs::StepPlans::read_version, layout::specs::Pool::sight), using(crate::proofs::Stages::readings))]
+    pub fn step_version(&mut self, reader: Reader) -> Result<Told, Refusal>
+        ensures words { (self.new.pool.words.now, reply_of result) ≡ step_at self.old.pool.words.now self.old.pool.sizes self.old.task (stage_for reader Reading.Version) }
+        ensures same { IsSameTurn self.old self.new }
+    {
+        let task = self.counted();
+        if self.pool.as_pool().version(task.block)? == task.number {
+            return Ok(self.settle(reader, task, task.hand));
+        }
+        let stage = reader.stage(Reading::Length);
+        Ok(self.go_on(task.moved(stage, task.hand)))
     }
-    let q = searching(w, m);
-    let g = stage_for(o, Reading::Probe);
-    turn(words, d, t, g, q)
-}
 
-// When lo = hi, in the same step, the search is over.
-fn bounds(words: &mut [u32], d: Sizes, t: u32, o: Reader, w: Hand) -> Said
-    requires { Held d words.old t × (w.cell ≡ (task_up words.old d t).hand.cell) }
-    ensures { (words.new, result) ≡ bounded_at words.old d t o w }
-{
-    if w.lo == w.hi {
-        return settles(words, d, t, o, w);
+    /// Third: read the log's length; if 0, the guess is the answer.
+    #[tactic(auto, unfolding(acts::specs::StepPlans::read_in, acts::specs::StepPlans::read_length, layout::specs::Pool::sight), using(crate::proofs::Stages::readings))]
+    pub fn step_length(&mut self, reader: Reader) -> Result<Told, Refusal>
+        ensures words { (self.new.pool.words.now, reply_of result) ≡ step_at self.old.pool.words.now self.old.pool.sizes self.old.task (stage_for reader Reading.Length) }
+        ensures same { IsSameTurn self.old self.new }
+    {
+        let task = self.counted();
+        let entries = self.pool.as_pool().log_length(task.block, task.hand.cell)?;
+        if entries == 0 {
+            return Ok(self.settle(reader, task, task.hand));
+        }
+        let stage = reader.stage(Reading::Probe);
+        Ok(self.go_on(task.moved(stage, task.hand.searching(entries))))
     }
-    let g = stage_for(o, Reading::Probe);
-    turn(words, d, t, g, w)
-}
 
-// Then one probe a step. A search that is over has no entry in its middle.
-pub fn step_probe(words: &mut [u32], d: Sizes, t: u32, o: Reader) -> Said
-    requires { Held d words.old t }
-    ensures { (words.new, result) ≡ step_at words.old d t (stage_for o Reading.Probe) }
-{
-    let k = task_in(words, d, t);
-    let w = k.hand;
-    if w.hi <= w.lo {
-        return refuses(2);
+    /// Then one probe a step; when lo = hi, in the same step, the search is over. A search that is over has no entry in its middle.
+    #[tactic(auto, unfolding(acts::specs::StepPlans::read_in, acts::specs::StepPlans::read_entry, layout::specs::Pool::sight), using(crate::proofs::Stages::readings))]
+    pub fn step_probe(&mut self, reader: Reader) -> Result<Told, Refusal>
+        ensures words { (self.new.pool.words.now, reply_of result) ≡ step_at self.old.pool.words.now self.old.pool.sizes self.old.task (stage_for reader Reading.Probe) }
+        ensures same { IsSameTurn self.old self.new }
+    {
+        let task = self.counted();
+        if task.hand.hi <= task.hand.lo {
+            return Err(Refusal::Damaged);
+        }
+        let entry = self
+            .pool
+            .as_pool()
+            .entry(task.block, task.hand.cell, task.hand.middle())?;
+        let hand = task.hand.probed(entry, task.number);
+        if hand.lo == hand.hi {
+            return Ok(self.settle(reader, task, hand));
+        }
+        let stage = reader.stage(Reading::Probe);
+        Ok(self.go_on(task.moved(stage, hand)))
     }
-    let mid = middle(w);
-    let Probed::Found(e) = pool::entry(words, d, k.block, w.cell, mid) else {
-        return refuses(2);
-    };
-    let q = probed(e, k.number, w);
-    bounds(words, d, t, o, q)
 }

@@ -1,139 +1,92 @@
 // One step each: a set, in place or by a copy.
 ghost use Rattle.std.specs.Prelude.{◌≡◌};
-ghost use Rattle.work.specs.Stepped.{Fresh, Held, copied_on, exchanged_on, first_set, step_at, write_made};
+ghost use Rattle.acts.specs.StepPlans.{after_exchange};
 
-use super::ends::{makes, next_serial};
-use super::tasks::{task_in, turn};
-use acts::Said;
-use acts::tasks::{after, answer, guessed, hand_of};
-use acts::words::refuses;
-use block::Looked;
-use rulebook::{Entry, Reading, Sizes, Stage};
+use super::turn::Turn;
+use acts::{Refusal, Told, after};
+use rulebook::{Entry, Hand, Reading, Stage, Task};
 
 // A first set with L < N goes on in place; every other set copies.
-fn exchanged(words: &mut [u32], d: Sizes, t: u32) -> Said
-    requires { Held d words.old t }
-    ensures { (words.new, result) ≡ exchanged_on words.old d t }
+fn first_set(task: Task, cells: u32) -> Task
+    ensures { result ≡ after_exchange cells task }
 {
-    let k = task_in(words, d, t);
-    let w = k.hand;
-    if k.number < d.n {
-        return turn(words, d, t, Stage::Read, w);
+    if task.number < cells {
+        task.moved(Stage::Read, task.hand)
+    } else {
+        task.moved(Stage::TakeCopy, Hand::of(0))
     }
-    let q = hand_of(0);
-    turn(words, d, t, Stage::TakeCopy, q)
 }
 
-// V becomes L + 1.
-fn exchange_first(words: &mut [u32], d: Sizes, t: u32) -> Said
-    requires { Held d words.old t }
-    ensures { (words.new, result) ≡ first_set words.old d t }
-{
-    let k = task_in(words, d, t);
-    if !pool::exchange(words, d, k.block, k.number) {
-        return refuses(2);
-    }
-    exchanged(words, d, t)
-}
+impl Turn<'_> {
+    ghost use Rattle.std.specs.Prelude.{◌≡◌};
+    ghost use Rattle.acts.specs.Told.{reply_of};
+    ghost use Rattle.work.specs.Stepped.{step_at};
+    ghost use Rattle.work.specs.Turns.{IsSameTurn};
 
-// The exchange: if V = L, V becomes L + 1; otherwise nothing.
-pub fn step_exchange(words: &mut [u32], d: Sizes, t: u32) -> Said
-    requires { Held d words.old t }
-    ensures { (words.new, result) ≡ step_at words.old d t Stage.Exchange }
-{
-    let k = task_in(words, d, t);
-    let Looked::Word(v) = pool::version(words, d, k.block) else {
-        return refuses(2);
-    };
-    if v == k.number {
-        return exchange_first(words, d, t);
+    /// The exchange: if V = L, V becomes L + 1; otherwise nothing, and the set copies.
+    #[tactic(auto, unfolding(crate::specs::Stepped::step_at, acts::specs::StepPlans::plan_at, layout::specs::Pool::sight, acts::specs::StepPlans::exchanges_on), using(crate::proofs::Doing::doing))]
+    pub fn step_exchange(&mut self) -> Result<Told, Refusal>
+        ensures words { (self.new.pool.words.now, reply_of result) ≡ step_at self.old.pool.words.now self.old.pool.sizes self.old.task Stage.Exchange }
+        ensures same { IsSameTurn self.old self.new }
+    {
+        let task = self.counted();
+        if !self.pool.exchange(task.block, task.number)? {
+            return Ok(self.go_on(task.moved(Stage::TakeCopy, Hand::of(0))));
+        }
+        Ok(self.go_on(first_set(task, self.pool.sizes.n)))
     }
-    let q = hand_of(0);
-    turn(words, d, t, Stage::TakeCopy, q)
-}
 
-// Read the cell; the old value is kept as the guess.
-pub fn step_read(words: &mut [u32], d: Sizes, t: u32) -> Said
-    requires { Held d words.old t }
-    ensures { (words.new, result) ≡ step_at words.old d t Stage.Read }
-{
-    let k = task_in(words, d, t);
-    let w = k.hand;
-    let Looked::Word(v) = pool::cell(words, d, k.block, k.cell) else {
-        return refuses(2);
-    };
-    let q = guessed(w, v);
-    turn(words, d, t, Stage::Append, q)
-}
-
-// Append (L, value read) to the cell's log.
-pub fn step_append(words: &mut [u32], d: Sizes, t: u32) -> Said
-    requires { Held d words.old t }
-    ensures { (words.new, result) ≡ step_at words.old d t Stage.Append }
-{
-    let k = task_in(words, d, t);
-    let w = k.hand;
-    let e = Entry {
-        version: k.number,
-        old: w.guess,
-    };
-    if !pool::append(words, d, k.block, k.cell, e) {
-        return refuses(2);
+    /// Read the cell; the old value is kept as the guess.
+    #[tactic(auto, unfolding(crate::specs::Stepped::step_at, acts::specs::StepPlans::plan_at, layout::specs::Pool::sight, acts::specs::StepPlans::reads_old), using(crate::proofs::Doing::doing))]
+    pub fn step_read(&mut self) -> Result<Told, Refusal>
+        ensures words { (self.new.pool.words.now, reply_of result) ≡ step_at self.old.pool.words.now self.old.pool.sizes self.old.task Stage.Read }
+        ensures same { IsSameTurn self.old self.new }
+    {
+        let task = self.counted();
+        let value = self.pool.as_pool().cell(task.block, task.cell)?;
+        Ok(self.go_on(task.moved(Stage::Append, task.hand.guessed(value))))
     }
-    turn(words, d, t, Stage::Write, w)
-}
 
-// Write the cell: the new handle stands on the same block with L + 1.
-fn write_makes(words: &mut [u32], d: Sizes, t: u32, s: u32) -> Said
-    requires { Fresh d words.old t s }
-    ensures { (words.new, result) ≡ write_made words.old d t s }
-{
-    let k = task_in(words, d, t);
-    if !pool::write(words, d, k.block, k.cell, k.value) {
-        return refuses(2);
+    /// Append (L, value read) to the cell's log.
+    #[tactic(auto, unfolding(crate::specs::Stepped::step_at, acts::specs::StepPlans::plan_at, layout::specs::Pool::sight, acts::specs::StepPlans::appends_entry), using(crate::proofs::Doing::doing))]
+    pub fn step_append(&mut self) -> Result<Told, Refusal>
+        ensures words { (self.new.pool.words.now, reply_of result) ≡ step_at self.old.pool.words.now self.old.pool.sizes self.old.task Stage.Append }
+        ensures same { IsSameTurn self.old self.new }
+    {
+        let task = self.counted();
+        let entry = Entry {
+            version: task.number,
+            old: task.hand.guess,
+        };
+        self.pool.append(task.block, task.cell, entry)?;
+        Ok(self.go_on(task.moved(Stage::Write, task.hand)))
     }
-    let l = after(k.number);
-    makes(words, d, t, s, k.block, l)
-}
 
-pub fn step_write(words: &mut [u32], d: Sizes, t: u32) -> Said
-    requires { Held d words.old t }
-    ensures { (words.new, result) ≡ step_at words.old d t Stage.Write }
-{
-    let k = task_in(words, d, t);
-    let s = next_serial(words, d, k.fresh);
-    if s == 0 {
-        return refuses(2);
+    /// Write the cell: the new handle stands on the same block with L + 1.
+    #[tactic(auto, unfolding(crate::specs::Stepped::step_at, acts::specs::StepPlans::plan_at, layout::specs::Pool::sight, acts::specs::StepPlans::writes_new, acts::specs::StepPlans::finishes), using(crate::proofs::Doing::doing))]
+    pub fn step_write(&mut self) -> Result<Told, Refusal>
+        ensures words { (self.new.pool.words.now, reply_of result) ≡ step_at self.old.pool.words.now self.old.pool.sizes self.old.task Stage.Write }
+        ensures same { IsSameTurn self.old self.new }
+    {
+        let task = self.counted();
+        let serial = self.next_serial(task.fresh)?;
+        self.pool.write(task.block, task.cell, task.value)?;
+        Ok(self.finish(task, serial, task.block, after(task.number)))
     }
-    write_makes(words, d, t, s)
-}
 
-// The next cell's get, or the last step.
-fn copied(words: &mut [u32], d: Sizes, t: u32) -> Said
-    requires { Held d words.old t }
-    ensures { (words.new, result) ≡ copied_on words.old d t }
-{
-    let k = task_in(words, d, t);
-    let w = k.hand;
-    let next = after(w.cell);
-    if next == d.n {
-        let q = hand_of(k.cell);
-        return turn(words, d, t, Stage::Put, q);
+    /// One step of a copy writes the answer to the block being filled; then comes the next cell's get, or the last write.
+    #[tactic(auto, unfolding(crate::specs::Stepped::step_at, acts::specs::StepPlans::plan_at, layout::specs::Pool::sight, acts::specs::StepPlans::fills_copy), using(crate::proofs::Doing::doing))]
+    pub fn step_fill_copy(&mut self) -> Result<Told, Refusal>
+        ensures words { (self.new.pool.words.now, reply_of result) ≡ step_at self.old.pool.words.now self.old.pool.sizes self.old.task Stage.FillCopy }
+        ensures same { IsSameTurn self.old self.new }
+    {
+        let task = self.counted();
+        self.pool
+            .fill(task.target, task.hand.cell, task.hand.answer())?;
+        let next = after(task.hand.cell);
+        if next == self.pool.sizes.n {
+            return Ok(self.go_on(task.moved(Stage::Put, Hand::of(task.cell))));
+        }
+        Ok(self.go_on(task.moved(Stage::Copying(Reading::Guess), Hand::of(next))))
     }
-    let q = hand_of(next);
-    turn(words, d, t, Stage::Copying(Reading::Guess), q)
-}
-
-// One step of a copy writes the answer to the block being filled.
-pub fn step_fill_copy(words: &mut [u32], d: Sizes, t: u32) -> Said
-    requires { Held d words.old t }
-    ensures { (words.new, result) ≡ step_at words.old d t Stage.FillCopy }
-{
-    let k = task_in(words, d, t);
-    let w = k.hand;
-    let v = answer(w);
-    if !pool::fill(words, d, k.target, w.cell, v) {
-        return refuses(2);
-    }
-    copied(words, d, t)
 }

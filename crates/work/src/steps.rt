@@ -1,91 +1,59 @@
-// A step: the code of the task's stage decides. Longer stages that go the same way share an arm, so that a step is one piece of machine code.
-ghost use Rattle.std.specs.Prelude.{◌≡◌};
-ghost use Rattle.acts.specs.StepPlans.{plan_step};
-ghost use Rattle.acts.specs.Said.{told_in};
-ghost use Rattle.layout.specs.Places.{Spans};
-ghost use Rattle.layout.specs.Pool.{applied_in, sight};
-ghost use Rattle.work.specs.Seen.{reader_of, step_coded, taker_of};
-ghost use Rattle.work.specs.Stepped.{Held};
+// A step: the stage of the task decides.
+use super::turn::Turn;
+use acts::{Reader, Refusal, Told};
+use rulebook::{Reading, Stage};
 
-use super::news::{step_fill, step_take};
-use super::readings::{step_guess, step_length, step_probe, step_version};
-use super::sets::{step_append, step_exchange, step_fill_copy, step_read, step_write};
-use acts::words::refuses;
-use acts::{Reader, Said};
-use rulebook::{Reading, Sizes, Stage};
+impl Turn<'_> {
+    ghost use Rattle.std.specs.Prelude.{◌≡◌};
+    ghost use Rattle.acts.specs.StepPlans.{plan_step, stage_for};
+    ghost use Rattle.acts.specs.Told.{reply_of};
+    ghost use Rattle.layout.specs.Pool.{applied_in, sight};
+    ghost use Rattle.work.specs.Stepped.{step_at};
+    ghost use Rattle.work.specs.Turns.{IsSameTurn};
 
-// Who reads, at a stage that reads.
-fn reader_of(c: u32) -> Reader
-    ensures { result ≡ reader_of c }
-{
-    if c < 31 {
-        return Reader::Get;
-    }
-    if c < 43 {
-        return Reader::Copy;
-    }
-    Reader::Page
-}
-
-// Where a task goes on that has taken its block.
-fn taker_of(c: u32) -> Stage
-    ensures { result ≡ taker_of c }
-{
-    if c == 13 {
-        return Stage::FillNew;
-    }
-    Stage::Copying(Reading::Guess)
-}
-
-// The codes are docs/LAYOUT.md's: 12 times the operation, and the stage.
-fn step_at(words: &mut [u32], d: Sizes, t: u32, c: u32) -> Said
-    requires { Held d words.old t }
-    ensures { (words.new, result) ≡ step_coded words.old d t c }
-{
-    match c {
-        // idle
-        0 => refuses(6),
-        // a new or a copy takes its block
-        13 | 37 => {
-            let g = taker_of(c);
-            step_take(words, d, t, g)
+    // What whoever reads does at a reading.
+    fn step_reading(&mut self, reader: Reader, reading: Reading) -> Result<Told, Refusal>
+        ensures words { (self.new.pool.words.now, reply_of result) ≡ step_at self.old.pool.words.now self.old.pool.sizes self.old.task (stage_for reader reading) }
+        ensures same { IsSameTurn self.old self.new }
+    {
+        match reading {
+            Reading::Guess => self.step_guess(reader),
+            Reading::Version => self.step_version(reader),
+            Reading::Length => self.step_length(reader),
+            Reading::Probe => self.step_probe(reader),
         }
-        // a new's cell; the last write of a copy
-        14 | 47 => step_fill(words, d, t, c == 47),
-        // what a get, a copy and a page read
-        27 => step_guess(words, d, t, Reader::Get),
-        39 => step_guess(words, d, t, Reader::Copy),
-        51 => step_guess(words, d, t, Reader::Page),
-        28 => step_version(words, d, t, Reader::Get),
-        40 => step_version(words, d, t, Reader::Copy),
-        52 => step_version(words, d, t, Reader::Page),
-        29 | 41 | 53 => {
-            let o = reader_of(c);
-            step_length(words, d, t, o)
-        }
-        30 | 42 | 54 => {
-            let o = reader_of(c);
-            step_probe(words, d, t, o)
-        }
-        // a copy's cell
-        38 => step_fill_copy(words, d, t),
-        // a set in place
-        43 => step_exchange(words, d, t),
-        44 => step_read(words, d, t),
-        45 => step_append(words, d, t),
-        46 => step_write(words, d, t),
-        _ => refuses(2),
     }
-}
 
-// A step of task t.
-pub fn step_on(words: &mut [u32], d: Sizes, t: u32) -> Said
-    requires { Spans d words.old }
-    ensures { (words.new, result) ≡ told_in (applied_in words.old d (plan_step (sight words.old d) t)) }
-{
-    if d.t <= t {
-        return refuses(4);
+    // A step at the stage.
+    #[tactic(auto, unfolding(crate::specs::Stepped::step_at, acts::specs::StepPlans::plan_at, layout::specs::Pool::sight), using(crate::proofs::Doing::doing))]
+    fn step_at(&mut self, stage: Stage) -> Result<Told, Refusal>
+        ensures words { (self.new.pool.words.now, reply_of result) ≡ step_at self.old.pool.words.now self.old.pool.sizes self.old.task stage }
+        ensures same { IsSameTurn self.old self.new }
+    {
+        match stage {
+            Stage::Idle => Err(Refusal::Idle),
+            Stage::TakeNew => self.step_take(Stage::FillNew),
+            Stage::FillNew => self.step_fill(),
+            Stage::Getting(reading) => self.step_reading(Reader::Get, reading),
+            Stage::Exchange => self.step_exchange(),
+            Stage::Read => self.step_read(),
+            Stage::Append => self.step_append(),
+            Stage::Write => self.step_write(),
+            Stage::TakeCopy => self.step_take(Stage::Copying(Reading::Guess)),
+            Stage::Copying(reading) => self.step_reading(Reader::Copy, reading),
+            Stage::FillCopy => self.step_fill_copy(),
+            Stage::Put => self.step_put(),
+            Stage::Paging(reading) => self.step_reading(Reader::Page, reading),
+        }
     }
-    let c = pool::code_at(words, d, t);
-    step_at(words, d, t, c)
+
+    /// The task takes a step.
+    #[tactic(auto, using(crate::proofs::Seen::steps))]
+    pub fn step(&mut self) -> Result<Told, Refusal>
+        ensures words { (self.new.pool.words.now, reply_of result) ≡ applied_in self.old.pool.words.now self.old.pool.sizes (plan_step (sight self.old.pool.words.now self.old.pool.sizes) self.old.task) }
+        ensures same { IsSameTurn self.old self.new }
+    {
+        let stage = Stage::try_from(self.pool.as_pool().code(self.task))?;
+        self.step_at(stage)
+    }
 }

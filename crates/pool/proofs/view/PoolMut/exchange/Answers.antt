@@ -1,5 +1,5 @@
 use Rattle.std.proofs.Common.{◌<◌, refl}
-use Rattle.layout.specs.Lends.{exchange-put}
+use Rattle.layout.specs.Lends.{exchange-near, exchange-put}
 use Rattle.layout.specs.Parts.{part, splice}
 use Rattle.layout.specs.Places.{Place}
 use Rattle.pool.proofs.view.PoolMut.exchange.Goals as goal
@@ -9,3 +9,9 @@ unfolding part splice
 returns-clause-words c =
     let lies : Place c.args.self.now.sizes c.args.block c.in_ok-part.part.start c.in_ok-part.part.end × (c.args.block < c.args.self.now.sizes.b) = rw c.as_pool.ensures.sizes at c.in_ok-part.ensures.place in
     exchange-put _ _ _ _ _ lies.0 _ lies.1 _ _ _ c.exchange.ensures refl
+
+pub returns-clause-answer : goal.returns-clause-answer
+unfolding part
+returns-clause-answer c =
+    let lies : Place c.args.self.now.sizes c.args.block c.in_ok-part.part.start c.in_ok-part.part.end × (c.args.block < c.args.self.now.sizes.b) = rw c.as_pool.ensures.sizes at c.in_ok-part.ensures.place in
+    exchange-near _ _ _ _ _ lies.0 lies.1 _ _ _ c.exchange.ensures

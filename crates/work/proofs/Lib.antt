@@ -1,0 +1,3 @@
+pub mod Doing
+pub mod Seen
+pub mod Stages
