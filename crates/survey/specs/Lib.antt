@@ -3,6 +3,7 @@ pub mod Whole
 pub mod Decide
 pub mod Holds
 pub mod Broken
+pub mod Held
 pub mod DecideBlocks
 pub mod DecideTasks
 pub mod Decided
