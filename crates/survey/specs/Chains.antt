@@ -112,7 +112,7 @@ module _ (d : Sizes) (p : List ℕ) where
       }
 
   module _ (j : ℕ) (first next : List ℕ) (s : ChainedTo j first next) (x : Slot) (e : x ≡ slot_read (slot_part p j)) (l : j < d.h) (b : Bool) (f : b ≡ is_live x.status) where
-    pub chain_idle : not b ≡ true → ChainedTo (j + 1) first next
+    pub chain_idle : b ≡ false → ChainedTo (j + 1) first next
     chain_idle q =
         record {
           first_sized = s.first_sized;
@@ -125,11 +125,11 @@ module _ (d : Sizes) (p : List ℕ) where
         }
       where
         off : (k : ℕ) → stands_on d p k j ≡ false
-        off k = sym (stands_not d p k j x e l b f (not-true b q))
+        off k = sym (stands_not d p k j x e l b f q)
 
-    module _ (q : not b ≡ false) where
+    module _ (q : b ≡ true) where
       on : (k : ℕ) → eqb x.block k ≡ stands_on d p k j
-      on k = stands_live d p k j x e l b f (not-false b q)
+      on k = stands_live d p k j x e l b f q
 
       module _ (sp : Spans d p) where
         chain_row : j < length next

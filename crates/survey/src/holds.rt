@@ -18,7 +18,7 @@ fn stands_as(task: Task, slot: Slot) -> bool
 }
 
 // The handle that the task names is live.
-#[tactic(auto, unfolding(crate::specs::Broken::named_at))]
+#[tactic(auto, unfolding(crate::specs::Broken::named_at), using(layout::specs::View::view_slot_at, layout::specs::View::view_task_at))]
 fn names_live(pool: Pool<'_>, task: u32) -> bool
     requires { task < pool.sizes.t }
     ensures { result ≡ named_at pool.entry.sizes pool.entry.words.now task }
@@ -55,6 +55,7 @@ fn filled_by(task: Task) -> Option<u32>
 }
 
 // No task but this one holds the thing.
+#[tactic(auto, using(crate::specs::Ways::loops))]
 fn alone<F: Fn(Task) -> Option<u32>>(pool: Pool<'_>, task: u32, thing: u32, holds: F) -> bool
     ghost held: { Task → Option ℕ }
     requires may { (other : Task) → F.pre holds other }
@@ -82,7 +83,7 @@ fn fresh_at(pool: Pool<'_>, task: u32) -> bool
         && alone(pool, task, slot, |other| reserved_by(other))
 }
 
-#[tactic(auto, unfolding(crate::specs::Broken::off_target))]
+#[tactic(auto, unfolding(crate::specs::Broken::off_target), using(layout::specs::View::view_slot_at, layout::specs::View::view_task_at))]
 fn off_target(pool: Pool<'_>, task: Task, slot: u32) -> bool
     requires { slot < pool.sizes.h }
     ensures { result ≡ off_target pool.entry.sizes pool.entry.words.now task slot }
@@ -104,7 +105,7 @@ fn target_at(pool: Pool<'_>, task: u32) -> bool
         && all_below(pool.sizes.h, move |slot| off_target(pool, busy, slot))
 }
 
-#[tactic(auto, unfolding(crate::specs::Broken::rule6_at))]
+#[tactic(auto, unfolding(crate::specs::Broken::rule6_at), using(layout::specs::View::view_slot_at, layout::specs::View::view_task_at))]
 fn holds_well(pool: Pool<'_>, task: u32) -> bool
     requires { task < pool.sizes.t }
     ensures { result ≡ rule6_at pool.entry.sizes pool.entry.words.now task }
@@ -112,7 +113,7 @@ fn holds_well(pool: Pool<'_>, task: u32) -> bool
     names_live(pool, task) && fresh_at(pool, task) && target_at(pool, task)
 }
 
-#[tactic(auto, unfolding(crate::specs::Broken::owns_at, crate::specs::Held::reserved_by))]
+#[tactic(auto, unfolding(crate::specs::Broken::owns_at, crate::specs::Held::reserved_by), using(layout::specs::View::view_slot_at, layout::specs::View::view_task_at))]
 fn owns(pool: Pool<'_>, slot: u32, task: u32) -> bool
     requires { task < pool.sizes.t }
     ensures { result ≡ owns_at pool.entry.sizes pool.entry.words.now slot task }
@@ -121,7 +122,7 @@ fn owns(pool: Pool<'_>, slot: u32, task: u32) -> bool
 }
 
 // The slot, if it is reserved, belongs to a task.
-#[tactic(auto, unfolding(crate::specs::Broken::owner_at))]
+#[tactic(auto, unfolding(crate::specs::Broken::owner_at), using(layout::specs::View::view_slot_at, layout::specs::View::view_task_at))]
 fn owner_at(pool: Pool<'_>, slot: u32) -> bool
     requires { slot < pool.sizes.h }
     ensures { result ≡ owner_at pool.entry.sizes pool.entry.words.now slot }
@@ -131,7 +132,7 @@ fn owner_at(pool: Pool<'_>, slot: u32) -> bool
 }
 
 /// Rule 6.
-#[tactic(auto, unfolding(crate::specs::Broken::rule6))]
+#[tactic(auto, unfolding(crate::specs::Broken::rule6), using(layout::specs::View::view_slot_at, layout::specs::View::view_task_at))]
 pub fn all_held_once(pool: Pool<'_>) -> bool
     ensures { result ≡ rule6 pool.entry.sizes pool.entry.words.now }
 {
