@@ -3,7 +3,6 @@ pub mod Whole
 pub mod Decide
 pub mod Holds
 pub mod Broken
-pub mod Held
 pub mod DecideBlocks
 pub mod DecideTasks
 pub mod Decided
@@ -12,6 +11,7 @@ pub mod Stands
 pub mod Logs
 pub mod Walk
 pub mod Ways
+pub mod Held
 pub mod Tally
 pub mod Chains
 pub mod Apart

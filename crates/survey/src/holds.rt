@@ -71,6 +71,7 @@ fn alone<F: Fn(Task) -> Option<u32>>(pool: Pool<'_>, task: u32, thing: u32, hold
 }
 
 // The slot that the task has reserved is reserved, and for it alone.
+#[tactic(auto, unfolding(crate::specs::Broken::fresh_at, crate::specs::Held::reserved_by), using(layout::specs::View::view_slot_at, layout::specs::View::view_task_at, crate::specs::Held::alone_fresh))]
 fn fresh_at(pool: Pool<'_>, task: u32) -> bool
     requires { task < pool.sizes.t }
     ensures { result ≡ fresh_at pool.entry.sizes pool.entry.words.now task }
@@ -93,6 +94,7 @@ fn off_target(pool: Pool<'_>, task: Task, slot: u32) -> bool
 }
 
 // The block that the task fills has no other task and no live handle.
+#[tactic(auto, unfolding(crate::specs::Broken::target_at, crate::specs::Held::filled_by), using(layout::specs::View::view_slot_at, layout::specs::View::view_task_at, crate::specs::Held::alone_target))]
 fn target_at(pool: Pool<'_>, task: u32) -> bool
     requires { task < pool.sizes.t }
     ensures { result ≡ target_at pool.entry.sizes pool.entry.words.now task }
