@@ -1,11 +1,11 @@
 -- The live handles of each block, chained in one pass over the slots: from the last slot on the block to the first.
 -- Rests on Reads, Ways and Decided.
-use Rattle.std.specs.Prelude.{◌+◌, ◌<◌, ◌≤◌, suc, zero, ℕ, Bool, ◌&&◌, false, not, true, List, ◌≡◌, refl, get_or, length, replicate, set, if◌then◌else◌}
+use Rattle.std.specs.Prelude.{◌+◌, ◌<◌, ◌≤◌, suc, zero, ℕ, Bool, ◌&&◌, false, true, List, ◌≡◌, refl, get_or, length, replicate, set, if◌then◌else◌}
 use Rattle.std.proofs.Common.{true≢false, ◌∙◌, sym, not-suc-le-zero, add-one, arith, length-set, get_or-set_other, get_or-set_same}
 use Rattle.std.proofs.Math.Path.{ap, subst}
 use Rattle.std.proofs.Math.Dec.{eqb}
 use Rattle.std.proofs.lemmas.List.{get_or-replicate, length-replicate}
-use borrow.Author.Tests.{eq-eqb, eqb-false, eqb-true, not-false, not-true}
+use borrow.Author.Tests.{eq-eqb, eqb-false, eqb-true}
 use Rattle.rulebook.specs.declared.Sizes.{Sizes}
 use Rattle.rulebook.specs.declared.Slot.{Slot}
 use Rattle.rulebook.specs.declared.Status.{Status}

@@ -1,7 +1,7 @@
 -- What a task holds: a slot that it has reserved, a block that it fills; and that no other task holds it.
 -- Rests on Broken.
 use Rattle.std.specs.Prelude.{◌+◌, ◌<◌, ℕ, suc, zero, Bool, false, true, List, ◌≡◌, refl, Option, Some, None, eqb, if◌then◌else◌}
-use Rattle.std.proofs.Common.{◌∙◌, ap, sym, add-one}
+use Rattle.std.proofs.Common.{◌∙◌, sym}
 use Rattle.std.specs.Option.{option_eq}
 use borrow.Author.Tests.{eq-eqb, eqb-false, eqb-true, ne_eqb}
 use Rattle.rulebook.specs.declared.Sizes.{Sizes}

@@ -1,13 +1,13 @@
 -- The blocks on which live handles stand, marked in one pass over the slots: 0 where one stands.
 -- Rests on Reads.
-use Rattle.std.specs.Prelude.{◌+◌, ◌<◌, ◌≤◌, ℕ, Bool, ◌||◌, false, not, true, List, ◌≡◌, refl, get_or, length, replicate, set}
+use Rattle.std.specs.Prelude.{◌+◌, ◌<◌, ◌≤◌, ℕ, Bool, ◌||◌, false, true, List, ◌≡◌, refl, get_or, length, replicate, set}
 use Rattle.std.proofs.Math.Bool.{or-false, or-true}
 use Rattle.std.proofs.Common.{◌∙◌, sym, add-one, arith, length-set, get_or-set_other, get_or-set_same, eqb-true, ne_eqb}
 use Rattle.std.proofs.Math.Path.{ap}
 use Rattle.std.proofs.Math.Dec.{eqb}
 use Rattle.std.proofs.lemmas.List.{get_or-replicate}
 use Rattle.std.proofs.Math.ListN.{length-replicate}
-use Rattle.std.proofs.lemmas.Bool.{eqb-false, not-false, not-true}
+use Rattle.std.proofs.lemmas.Bool.{eqb-false}
 use Rattle.rulebook.specs.declared.Sizes.{Sizes}
 use Rattle.rulebook.specs.declared.Slot.{Slot}
 use Rattle.layout.specs.Places.{Spans, slot_part}

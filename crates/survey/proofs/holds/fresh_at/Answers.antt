@@ -1,4 +1,4 @@
-use Rattle.std.proofs.Common.{rules, arith}
+use Rattle.std.proofs.Common.{arith}
 use Rattle.std.proofs.lemmas.Grind.{common_steps}
 use Rattle.layout.specs.View.{view_slot_at, view_task_at}
 use Rattle.survey.specs.Broken.{fresh_at}
