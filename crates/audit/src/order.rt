@@ -1,6 +1,7 @@
 // The rules in their order.
-ghost use Rattle.std.specs.Prelude.{◌≡◌, ◌↔◌, IfErr, IsOk, IsTrue};
-ghost use Rattle.survey.specs.Broken.{broken_in};
+ghost use Rattle.std.specs.Prelude.{◌≡◌, Err, Ok, if◌then◌else◌};
+ghost use Rattle.survey.specs.Broken.{broken_in, broken_of};
+ghost use Rattle.survey.specs.Stands.{Marked};
 ghost use Rattle.audit.specs.Rule.{number_of, rule_in};
 
 use super::seven::rule_seven;
@@ -50,24 +51,32 @@ impl From<Rule> for u32 {
 
 // The rule is broken where the test fails.
 fn require(holds: bool, rule: Rule) -> Result<(), Rule>
-    ensures kept { IsOk result ↔ IsTrue holds }
-    ensures broken { IfErr result (λ broken. broken ≡ rule) }
+    ensures { result ≡ if holds then Ok tt else Err rule }
 {
     if holds { Ok(()) } else { Err(rule) }
 }
 
+// Rules 2 to 7, of a pool on whose marked blocks live handles stand.
+#[tactic(auto, unfolding(survey::specs::Broken::broken_of), using(crate::specs::Order::holds))]
+fn rules_hold(pool: Pool<'_>, stood: &[u32]) -> Result<(), Rule>
+    requires { Marked pool.sizes pool.words.now stood.now }
+    ensures { rule_in result ≡ broken_of pool.entry.sizes pool.entry.words.now }
+{
+    require(all_stand(pool), Rule::Handles)?;
+    require(logs_hold(pool, stood), Rule::Logs)?;
+    require(all_few(pool, stood), Rule::Entries)?;
+    require(all_apart(pool), Rule::Numbers)?;
+    require(all_held_once(pool), Rule::Tasks)?;
+    require(rule_seven(pool, stood), Rule::Layout)
+}
+
 /// The first of document 01's rules that the words break.
-#[tactic(auto, unfolding(survey::specs::Broken::broken_in, survey::specs::Broken::broken_of), using(crate::specs::Order::checks))]
+#[tactic(auto, using(crate::specs::Order::checks))]
 pub fn check(words: &[u32]) -> Result<(), Rule>
     ensures { rule_in result ≡ broken_in words.now }
 {
     let pool = Pool::of(words).ok_or(Rule::Header)?;
     let mut stood = [1u32; MOST_BLOCKS as usize];
     mark_stood(pool, &mut stood);
-    require(all_stand(pool), Rule::Handles)?;
-    require(logs_hold(pool, &stood), Rule::Logs)?;
-    require(all_few(pool, &stood), Rule::Entries)?;
-    require(all_apart(pool), Rule::Numbers)?;
-    require(all_held_once(pool), Rule::Tasks)?;
-    require(rule_seven(pool, &stood), Rule::Layout)
+    rules_hold(pool, &stood)
 }

@@ -1,15 +1,15 @@
 // Rule 7: each task's code, its ranges, and its steps by its stage.
 ghost use Rattle.std.specs.Prelude.{◌≡◌, ◌*◌, ◌+◌, ◌-◌, ◌<◌, ◌≤◌, leb};
-ghost use Rattle.layout.specs.Rows.{most_steps};
+ghost use Rattle.layout.specs.Rows.{Ranged, most_steps};
 ghost use Rattle.rulebook.specs.Sizes.{most_cells};
 ghost use Rattle.rules.specs.Paced.{copy_steps};
 ghost use Rattle.theorems.specs.Prices.Digits.{left_of};
 ghost use Rattle.theorems.specs.Terms.{all_to, digits};
 ghost use Rattle.survey.specs.Broken.{task_sound};
-ghost use Rattle.audit.specs.Paces.{Steady, pace_at};
+ghost use Rattle.audit.specs.Paces.{pace_at};
 
 use pool::Pool;
-use rulebook::{Hand, Reading, Stage, Task};
+use rulebook::{Hand, Reading, Sizes, Stage, Task};
 use survey::all_below;
 
 // ---- a get in hand
@@ -81,27 +81,28 @@ fn page_most(cells: u32, from: u32, to: u32) -> u32
 
 // ---- every task
 
-// The steps are those of the stage.
+// The steps are those of the stage, of a task in its ranges.
 #[tactic(auto, unfolding(crate::specs::Paces::pace_at), using(crate::specs::Paces::paces))]
-fn pace_at(cells: u32, task: Task) -> bool
-    requires { Steady cells task }
-    ensures { result ≡ pace_at cells task.stage task }
+fn pace_at(sizes: Sizes, task: Task) -> bool
+    requires { (sizes.n ≤ most_cells) × Ranged sizes task }
+    ensures { result ≡ pace_at sizes.n task.stage task }
 {
-    let copied = task.hand.cell;
+    let cells = sizes.n;
+    let cell = task.hand.cell;
     match task.stage {
         Stage::Idle => task == Task::idle(),
         Stage::TakeNew | Stage::Exchange => task.steps == 0,
         Stage::Read | Stage::TakeCopy => task.steps == 1,
         Stage::Append => task.steps == 2,
         Stage::Write => task.steps == 3,
-        Stage::FillNew => task.steps == copied + 1,
+        Stage::FillNew => task.steps == cell + 1,
         Stage::Getting(reading) => ends_within(cells, reading, task, get_most(cells)),
-        Stage::Copying(reading) => ends_within(cells, reading, task, next_most(cells, copied)),
-        Stage::FillCopy => task.steps <= next_most(cells, copied),
+        Stage::Copying(reading) => ends_within(cells, reading, task, next_most(cells, cell)),
+        Stage::FillCopy => task.steps <= next_most(cells, cell),
         Stage::Put => task.steps <= copy_most(cells, cells),
         Stage::Paging(reading) => {
-            task.cell <= task.hand.cell
-                && ends_within(cells, reading, task, page_most(cells, task.cell, task.hand.cell))
+            task.cell <= cell
+                && ends_within(cells, reading, task, page_most(cells, task.cell, cell))
         }
     }
 }
@@ -113,7 +114,7 @@ fn task_sound(pool: Pool<'_>, index: u32) -> bool
     ensures { result ≡ task_sound pool.entry.sizes pool.entry.words.now index }
 {
     match pool.ranged_task(index) {
-        Ok(task) => pace_at(pool.sizes.n, task),
+        Ok(task) => pace_at(pool.sizes, task),
         Err(_) => false,
     }
 }

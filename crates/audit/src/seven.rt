@@ -12,7 +12,7 @@ use super::writers::writers_hold;
 use pool::Pool;
 
 // Where rules 2, 3 and 6 hold.
-#[tactic(auto, unfolding(survey::specs::Broken::rule7), using(crate::specs::Parts::parts))]
+#[tactic(auto, unfolding(survey::specs::Broken::rule7))]
 pub fn rule_seven(pool: Pool<'_>, stood: &[u32]) -> bool
     requires two { Rule2 pool.sizes pool.words.now }
     requires three { Rule3 pool.sizes pool.words.now }
