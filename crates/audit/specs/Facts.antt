@@ -1,29 +1,21 @@
 -- What each task at its stage has done, where the rules before tell the rest.
 -- Rests on Broken, Ways and Rules.
-use Rattle.std.specs.Prelude.{◌<◌, ◌≤◌, ℕ, Bool, ◌&&◌, false, not, true, List, ◌≡◌, refl, leb, ltb}
-use Rattle.std.proofs.Math.Bool.{and-true}
-use Rattle.std.proofs.Common.{true≢false, ◌∙◌, subst, arith}
-use Rattle.std.proofs.lemmas.Bool.{false≢true}
-use Rattle.std.proofs.Math.Path.{ap, sym}
-use borrow.Author.Tests.{le-leb, lt-ltb, not-false, not-true}
-use Rattle.rulebook.specs.declared.Reading.{Reading}
+use Rattle.std.specs.Prelude.{◌<◌, ◌≤◌, ℕ, Bool, true, List, ◌≡◌, refl, leb, ltb}
+use Rattle.std.proofs.Common.{◌∙◌, subst, arith}
+use Rattle.std.proofs.Math.Path.{ap}
+use borrow.Author.Tests.{le-leb, lt-ltb}
 use Rattle.rulebook.specs.declared.Sizes.{Sizes}
-use Rattle.rulebook.specs.declared.Slot.{Slot}
 use Rattle.rulebook.specs.declared.Stage.{Stage}
 use Rattle.rulebook.specs.declared.Task.{Task}
-use Rattle.block.specs.Layout.{version_of}
-use Rattle.layout.specs.Places.{Spans, block_part, slot_part, task_part}
+use Rattle.layout.specs.Places.{Spans, block_part, task_part}
 use Rattle.layout.specs.Pool.{view_of}
-use Rattle.layout.specs.Rows.{slot_read, task_read}
-use Rattle.rulebook.specs.Sizes.{last_serial}
+use Rattle.layout.specs.Rows.{task_read}
 use Rattle.rulebook.specs.State.{names}
 use Rattle.rules.specs.Paced.{Paced, TaskRange}
-use Rattle.survey.specs.Broken.{facts_at}
-use Rattle.survey.specs.Holds.{fills_to, gets_in, interior, on_cell, on_hand, task_holds, to_append, to_write, unspent}
+use Rattle.survey.specs.Holds.{on_cell, on_hand, task_holds}
 use Rattle.survey.specs.Logs.{Walkable, live_walkable}
 use Rattle.survey.specs.Rules.{Rule2, Rule3, Rule6, shown, task}
 use Rattle.survey.specs.Ways.{slot_as, task_as, version-here}
-use Rattle.rulebook.specs.declared.Stage.TheVariants as stage
 
 module _ (d : Sizes) (p : List ℕ) where
   -- what the rules before tell: the logs of blocks with a live handle can be walked, tasks stand where they name one, and numbers are in their ranges
@@ -71,10 +63,6 @@ module _ (d : Sizes) (p : List ℕ) where
     pub until_in : leb k.until (shown d p).sizes.n ≡ true
     unfolding view_of
     until_in = le-leb k.until d.n s.until
-
-  -- a stage that names a handle
-  pub stands_walkable : (k : Task) → Stands k.stage k → (g : Stage) → k.stage ≡ g → names g ≡ true → Walkable d.n (block_part p d k.block)
-  stands_walkable k s g e n = s.logs (ap names e ∙ n)
 
   -- ---- the task
 

@@ -1,10 +1,9 @@
 -- Rule 7's words of blocks being filled: where each task's own facts hold, only the bump is left to ask.
 -- Rests on Broken, Ways and DecideBlocks.
-use Rattle.std.specs.Prelude.{◌<◌, ℕ, Bool, false, not, true, List, ◌≡◌, eqb, length}
+use Rattle.std.specs.Prelude.{◌<◌, ℕ, true, List, ◌≡◌, eqb, length}
 use Rattle.std.proofs.lemmas.Bool.{false≢true}
 use Rattle.std.proofs.Common.{◌∙◌, ap, subst}
 use Rattle.std.proofs.Math.Path.{sym}
-use borrow.Author.Tests.{not-false, not-true}
 use Rattle.rulebook.specs.declared.Sizes.{Sizes}
 use Rattle.rulebook.specs.declared.Stage.{Stage}
 use Rattle.rulebook.specs.declared.Task.{Task}
@@ -19,7 +18,6 @@ use Rattle.layout.specs.View.{view_block_at}
 use Rattle.rulebook.specs.State.{Block, fills, log_at}
 use Rattle.rules.specs.Paced.{Paced, TaskRange}
 use Rattle.rules.specs.Rules.{Fills, TaskRule}
-use Rattle.survey.specs.Broken.{filling_at}
 use Rattle.survey.specs.Holds.{filling_in}
 use Rattle.survey.specs.Decide.{decide_as, decide_eq, same}
 use Rattle.survey.specs.DecideBlocks.{filling_decides}

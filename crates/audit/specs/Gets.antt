@@ -1,13 +1,12 @@
 -- A task that reads: the log of its cell as the words show it, and what its words give.
 -- Rests on Broken, Logs and the block's reading.
-use Rattle.std.specs.Prelude.{◌<◌, ◌≤◌, ℕ, Bool, ◌&&◌, false, not, true, List, ◌≡◌, eqb, leb, ltb}
+use Rattle.std.specs.Prelude.{◌<◌, ◌≤◌, ℕ, Bool, ◌&&◌, true, List, ◌≡◌, eqb, leb, ltb}
 use Rattle.std.proofs.Common.{◌∙◌, arith}
 use Rattle.std.proofs.Math.Path.{ap, sym}
 use Rattle.std.proofs.Math.ListN.{length}
-use borrow.Author.Tests.{eq-eqb, le-leb, le-ltb, lt-leb, lt-ltb, ne_eqb, not-false, not-true}
+use borrow.Author.Tests.{lt-ltb}
 use Rattle.rulebook.specs.declared.Entry.{Entry}
 use Rattle.rulebook.specs.declared.Hand.{Hand}
-use Rattle.rulebook.specs.declared.Reading.{Reading}
 use Rattle.rulebook.specs.declared.Sizes.{Sizes}
 use Rattle.rulebook.specs.declared.Task.{Task}
 use Rattle.block.specs.Layout.{arena, entry_of, length_of, place_of}
@@ -17,11 +16,9 @@ use Rattle.layout.specs.Places.{Spans, block_part}
 use Rattle.layout.specs.Pool.{view_of}
 use Rattle.layout.specs.View.{view_block_at}
 use Rattle.rulebook.specs.State.{Block, block_at, log_at}
-use Rattle.theorems.specs.Terms.{all_to, version_at}
-use Rattle.survey.specs.Holds.{gets_in, seeks_in}
+use Rattle.theorems.specs.Terms.{version_at}
 use Rattle.survey.specs.Logs.{Walkable}
 use Rattle.survey.specs.Rules.{shown}
-use Rattle.rulebook.specs.declared.Reading.TheVariants as reading
 
 -- the candidate of a search of the log l has the version of the entry at hi, which is not older than L
 unfoldable pub candidate_in : List Entry → ℕ → Hand → Bool

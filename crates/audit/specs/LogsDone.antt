@@ -1,25 +1,23 @@
 -- What a set in place and a task that fills have done: what their functions ask of a block's logs, and what the words give.
 -- Rests on Broken, Reads, Tally and Ways.
-use Rattle.std.specs.Prelude.{◌+◌, ◌<◌, ◌≤◌, suc, zero, ℕ, Bool, ◌&&◌, ◌||◌, false, true, List, ◌≡◌, refl, leb, length}
+use Rattle.std.specs.Prelude.{◌<◌, suc, zero, ℕ, Bool, ◌&&◌, ◌||◌, false, true, List, ◌≡◌, refl, leb, length}
 use Rattle.std.proofs.Math.Bool.{not}
-use Rattle.std.proofs.Common.{◌∙◌, arith}
+use Rattle.std.proofs.Common.{◌∙◌}
 use Rattle.std.proofs.Math.Path.{ap, sym}
 use Rattle.std.proofs.Math.Dec.{eqb, ltb}
 use borrow.Author.Tests.{le-leb, lt-leb, lt-ltb, ltb-false, ltb-true}
-use Rattle.rulebook.specs.declared.Entry.{Entry}
 use Rattle.rulebook.specs.declared.Sizes.{Sizes}
 use Rattle.rulebook.specs.declared.Task.{Task}
-use Rattle.block.specs.Layout.{arena, length_of, place_of, version_of}
-use Rattle.block.specs.Raw.{stamp_in}
-use Rattle.block.specs.Reads.{entry_at_lem, log-length_at}
+use Rattle.block.specs.Layout.{length_of}
+use Rattle.block.specs.Reads.{log-length_at}
 use Rattle.layout.specs.Places.{Spans, block_part}
 use Rattle.layout.specs.Pool.{view_of}
 use Rattle.layout.specs.View.{view_block_at, view_block-logs}
 use Rattle.rulebook.specs.State.{Block, block_at, log_at}
-use Rattle.theorems.specs.Terms.{all_to, entries, version_at}
-use Rattle.survey.specs.Holds.{all_below, every_entry, fills_to, to_append, to_write}
+use Rattle.theorems.specs.Terms.{all_to, version_at}
+use Rattle.survey.specs.Holds.{all_below, every_entry, to_write}
 use Rattle.survey.specs.Decide.{◌implies◌, some_to}
-use Rattle.survey.specs.Logs.{Walkable, stamp_of}
+use Rattle.survey.specs.Logs.{Walkable}
 use Rattle.survey.specs.Rules.{shown}
 use Rattle.survey.specs.Tally.{Counts}
 use Rattle.survey.specs.Ways.{version-here}

@@ -1,10 +1,10 @@
 -- The rules in their order: what the check owes where the header is bad, and where it gives the sizes; what each rule that holds tells those after it.
 -- Rests on Broken and Decided.
-use Rattle.std.specs.Prelude.{ℕ, Bool, true, false, not, List, ◌≡◌, ◌↔◌, if◌then◌else◌, Err, Ok, IsOk, IsTrue, None, Option, Result, Some}
+use Rattle.std.specs.Prelude.{ℕ, true, List, ◌≡◌, None, Option, Some}
 use Rattle.std.proofs.Common.{◌∙◌, ap, sym}
 use Rattle.rulebook.specs.declared.Sizes.{Sizes}
 use Rattle.layout.specs.Header.{header_of}
-use Rattle.survey.specs.Broken.{broken_in, broken_of, broken_under, rule2, rule3, rule4, rule5, rule6, rule7}
+use Rattle.survey.specs.Broken.{broken_in, broken_of, broken_under, rule2, rule3, rule6}
 use Rattle.survey.specs.Decided.{decides_2, decides_3, decides_6}
 use Rattle.survey.specs.Rules.{Rule2, Rule3, Rule6}
 

@@ -1,12 +1,12 @@
 -- Rule 7's task rows: what an idle task is, which rows can be read, and what keeps the sums of steps in 32 bits.
 -- Rests on Broken, DecideTasks and the rules' bounds on steps.
-use Rattle.std.specs.Prelude.{◌*◌, ◌+◌, ◌-◌, ◌/◌, ◌<◌, ◌^◌, ◌≤◌, suc, zero, ℕ, Bool, ◌&&◌, false, not, true, List, eqb, leb, get_or, Err, Ok, Result, IsTrue, ◌↔◌}
+use Rattle.std.specs.Prelude.{◌*◌, ◌+◌, ◌-◌, ◌/◌, ◌<◌, ◌^◌, ◌≤◌, suc, zero, ℕ, Bool, false, true, List, eqb, get_or, Err, Ok, Result, IsTrue, ◌↔◌}
 use Rattle.std.proofs.Common.{true≢false, ◌∙◌, ap, subst, sym, pow-suc, pow_pos}
 use Rattle.std.proofs.Math.Path.{◌≡◌, refl}
 use native.Mathlib.Omega.{arith}
 use Rattle.std.proofs.lemmas.Nat.{leading_le, leading_length}
 use Rattle.std.specs.Int.Count.{count_leading_zeros}
-use borrow.Author.Tests.{eq-eqb, le-leb, lt-leb, lt-ltb, ne_eqb}
+use borrow.Author.Tests.{le-leb, lt-ltb}
 use Rattle.rulebook.specs.declared.Sizes.{Sizes}
 use Rattle.rulebook.specs.declared.Stage.{Stage}
 use Rattle.rulebook.specs.declared.Task.{Task}
@@ -20,7 +20,7 @@ use Rattle.rulebook.specs.Sizes.{most_cells}
 use Rattle.rulebook.specs.State.{idle}
 use Rattle.rulebook.specs.Tests.{by_test}
 use Rattle.survey.specs.Decide.{same}
-use Rattle.rules.specs.Paced.{Pace, TaskRange, copy_steps, digits-few, product-few, steps-few}
+use Rattle.rules.specs.Paced.{Pace, TaskRange, digits-few, product-few, steps-few}
 use Rattle.theorems.specs.Prices.Digits.{digits_half}
 use Rattle.theorems.specs.Terms.{digits, digits_in}
 use Rattle.survey.specs.Broken.{task_sound}

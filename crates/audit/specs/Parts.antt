@@ -1,6 +1,6 @@
 -- Rule 7's parts in their order: what each that holds tells those after it.
 -- Rests on Broken and Decided.
-use Rattle.std.specs.Prelude.{ℕ, Bool, true, List, ◌≡◌}
+use Rattle.std.specs.Prelude.{ℕ, true, List, ◌≡◌}
 use Rattle.rulebook.specs.declared.Sizes.{Sizes}
 use Rattle.layout.specs.Places.{Spans}
 use Rattle.layout.specs.Pool.{view_of}

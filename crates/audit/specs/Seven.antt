@@ -1,28 +1,25 @@
 -- Rule 7's functions on rows and blocks: what a task's ranges give, which rows can be read, and which words are laid out.
 -- Rests on Broken, Ways and the deciding of each part.
-use Rattle.std.specs.Prelude.{◌+◌, ◌<◌, ◌≤◌, ℕ, Bool, false, not, true, List, eqb, leb, ltb, get_or, Err, Ok, Result}
-use Rattle.std.proofs.Math.Bool.{and-true}
+use Rattle.std.specs.Prelude.{◌+◌, ◌<◌, ◌≤◌, ℕ, Bool, false, true, List, ltb, get_or, Err, Ok, Result}
 use Rattle.std.proofs.Common.{◌∙◌, ap, sym}
 use Rattle.std.proofs.Math.Path.{◌≡◌, subst}
 use native.Mathlib.Omega.{arith}
-use borrow.Author.Tests.{eq-eqb, le-leb, lt-leb, lt-ltb, ltb-true, ne_eqb, not-false, not-true}
+use borrow.Author.Tests.{le-leb, lt-ltb, ltb-true}
 use Rattle.rulebook.specs.declared.Sizes.{Sizes}
 use Rattle.rulebook.specs.declared.Slot.{Slot}
 use Rattle.rulebook.specs.declared.Task.{Task}
-use Rattle.block.specs.Layout.{version_of}
 use Rattle.block.specs.Sound.{Laid}
 use Rattle.block.specs.Walk.{Decides}
-use Rattle.layout.specs.Places.{Spans, block_part, slot_part, task_part}
+use Rattle.layout.specs.Places.{Spans, slot_part, task_part}
 use Rattle.layout.specs.Pool.{slot_in, view_of}
 use Rattle.layout.specs.Ranges.{slot_row}
 use Rattle.layout.specs.Rows.{slot_fits, slot_read, slot_row_of, task_read}
 use Rattle.layout.specs.View.{view_slot_at}
 use Rattle.rulebook.specs.Sizes.{last_serial}
-use Rattle.rulebook.specs.State.{is_live, stood, writes}
+use Rattle.rulebook.specs.State.{is_live}
 use Rattle.rulebook.specs.Tests.{by_test}
 use Rattle.rules.specs.Paced.{Paced, SlotRange, TaskRange}
-use Rattle.theorems.specs.Terms.{all_to}
-use Rattle.survey.specs.Broken.{laid_at, not_above, slot_sound, writer_apart, writer_at}
+use Rattle.survey.specs.Broken.{slot_sound}
 use Rattle.survey.specs.Holds.{laid_in, slot_holds}
 use Rattle.survey.specs.Decide.{same}
 use Rattle.survey.specs.DecideBlocks.{laid_decides}

@@ -56,9 +56,7 @@ fn stage_done(pool: Pool<'_>, task: Task) -> bool
         Stage::Copying(reading) => copy_filled(pool, task) && gets_in(pool, task, reading),
         Stage::FillCopy => copy_filled(pool, task),
         Stage::Put => is_unspent(pool, task) && fills_to(pool, pool.sizes.n, task),
-        Stage::Paging(reading) => {
-            gets_in(pool, task, reading) && task.hand.cell < task.until
-        }
+        Stage::Paging(reading) => gets_in(pool, task, reading) && task.hand.cell < task.until,
     }
 }
 

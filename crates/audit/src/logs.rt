@@ -22,5 +22,8 @@ pub fn all_older(pool: Pool<'_>, block: u32, cell: u32, number: u32, entries: u3
     requires there { entries ≤ length (log_in pool.sizes pool.words.now block cell) }
     ensures { result ≡ all_to (older_in pool.entry.sizes pool.entry.words.now block cell number) entries }
 {
-    all_below(entries, move |index| is_older(pool, block, cell, number, index))
+    all_below(
+        entries,
+        move |index| is_older(pool, block, cell, number, index),
+    )
 }

@@ -12,8 +12,8 @@ ghost use Rattle.audit.specs.LogsDone.{cell_below, empty_at, other_below};
 use super::logs::all_older;
 use pool::Pool;
 use rulebook::Task;
-use survey::tally::entries_of;
 use survey::all_below;
+use survey::tally::entries_of;
 
 // ---- a block that is filled
 
@@ -64,7 +64,10 @@ fn block_below(pool: Pool<'_>, block: u32, number: u32) -> bool
     requires { Counts pool.sizes pool.words.now block }
     ensures { result ≡ all_below (block_at (shown pool.entry.sizes pool.entry.words.now) block) number }
 {
-    all_below(pool.sizes.n, move |cell| cell_below(pool, block, number, cell))
+    all_below(
+        pool.sizes.n,
+        move |cell| cell_below(pool, block, number, cell),
+    )
 }
 
 // Those in the cell's log are, or it is the cell that is set.
@@ -81,7 +84,10 @@ fn others_below(pool: Pool<'_>, block: u32, set: u32, number: u32) -> bool
     requires { Counts pool.sizes pool.words.now block }
     ensures { result ≡ all_to (other_below pool.entry.sizes pool.entry.words.now block set number) pool.entry.sizes.n }
 {
-    all_below(pool.sizes.n, move |cell| other_below(pool, block, set, number, cell))
+    all_below(
+        pool.sizes.n,
+        move |cell| other_below(pool, block, set, number, cell),
+    )
 }
 
 // ---- a set in place

@@ -70,7 +70,7 @@ fn rules_hold(pool: Pool<'_>, stood: &[u32]) -> Result<(), Rule>
     require(rule_seven(pool, stood), Rule::Layout)
 }
 
-/// The first of document 01's rules that the words break.
+/// Whether the words are a sound store; where they are not, the first of document 01's rules that they break.
 #[tactic(auto, using(crate::specs::Order::checks))]
 pub fn check(words: &[u32]) -> Result<(), Rule>
     ensures { rule_in result ≡ broken_in words.now }

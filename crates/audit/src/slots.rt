@@ -16,12 +16,11 @@ use survey::stands::stood_on;
 fn slot_holds(slot: Slot) -> bool
     ensures { result ≡ slot_holds slot }
 {
-    slot.serial <= LAST_SERIAL
-        && if slot.is_live() {
-            1 <= slot.serial
-        } else {
-            slot.block == 0 && slot.number == 0
-        }
+    if slot.is_live() {
+        1 <= slot.serial && slot.serial <= LAST_SERIAL
+    } else {
+        slot.serial <= LAST_SERIAL && slot.block == 0 && slot.number == 0
+    }
 }
 
 #[tactic(auto, using(crate::specs::Seven::slots))]
@@ -30,10 +29,7 @@ fn slot_sound(pool: Pool<'_>, slot: u32) -> bool
     requires there { slot < pool.sizes.h }
     ensures { result ≡ slot_sound pool.entry.sizes pool.entry.words.now slot }
 {
-    match pool.ranged_slot(slot) {
-        Ok(found) => slot_holds(found),
-        Err(_) => false,
-    }
+    pool.ranged_slot(slot).is_ok_and(slot_holds)
 }
 
 // Where rule 2 holds.

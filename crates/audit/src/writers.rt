@@ -48,10 +48,12 @@ fn writer_at(pool: Pool<'_>, index: u32) -> bool
     ensures { result ≡ writer_at pool.entry.sizes pool.entry.words.now index }
 {
     let task = pool.raw_task(index);
-    !task.stage.writes_in_place()
-        || pool.raw_version(task.block) == task.number + 1
-            && writer_alone(pool, task, index)
-            && none_above(pool, task)
+    if !task.stage.writes_in_place() {
+        return true;
+    }
+    pool.raw_version(task.block) == task.number + 1
+        && writer_alone(pool, task, index)
+        && none_above(pool, task)
 }
 
 // Where every row is in its ranges.
