@@ -1,10 +1,9 @@
 -- Rule 7's words of blocks being filled: where each task's own facts hold, only the bump is left to ask.
 -- Rests on Broken, Ways and DecideBlocks.
-use Rattle.std.specs.Prelude.{◌<◌, ℕ, Bool, false, not, true, List, ◌≡◌, eqb, length}
+use Rattle.std.specs.Prelude.{◌<◌, ℕ, true, List, ◌≡◌, eqb, length}
 use Rattle.std.proofs.lemmas.Bool.{false≢true}
 use Rattle.std.proofs.Common.{◌∙◌, ap, subst}
 use Rattle.std.proofs.Math.Path.{sym}
-use borrow.Author.Tests.{not-false, not-true}
 use Rattle.rulebook.specs.declared.Sizes.{Sizes}
 use Rattle.rulebook.specs.declared.Stage.{Stage}
 use Rattle.rulebook.specs.declared.Task.{Task}
@@ -19,7 +18,6 @@ use Rattle.layout.specs.View.{view_block_at}
 use Rattle.rulebook.specs.State.{Block, fills, log_at}
 use Rattle.rules.specs.Paced.{Paced, TaskRange}
 use Rattle.rules.specs.Rules.{Fills, TaskRule}
-use Rattle.survey.specs.Broken.{filling_at}
 use Rattle.survey.specs.Holds.{filling_in}
 use Rattle.survey.specs.Decide.{decide_as, decide_eq, same}
 use Rattle.survey.specs.DecideBlocks.{filling_decides}
@@ -51,20 +49,16 @@ module _ (d : Sizes) (p : List ℕ) where
   fills_to stage.Put k e r = r.2
   fills_to (stage.Paging x) k e r = absurd (false≢true e)
 
-  module _ (s : Facts) (t : ℕ) (k : Task) (e : k ≡ task_read (task_part p d t)) (l : t < d.t) (b : Bool) (f : b ≡ fills k.stage) where
-    pub filling-none : not b ≡ true → true ≡ filling_at d p t
-    unfolding filling_at
-    filling-none q = rw (task_as d p t k e l, ← f, not-true b q)
-
+  module _ (s : Facts) (t : ℕ) (k : Task) (e : k ≡ task_read (task_part p d t)) (l : t < d.t) where
     pub filling-target : k.target < d.b
     unfolding view_of
     filling-target = (subst (TaskRange d) (task_as d p t k e l) (s.paced.tasks t)).target_below
 
-    module _ (q : not b ≡ false) where
+    module _ (q : fills k.stage ≡ true) where
       filled : Fills (shown d p) (filled_to k.stage d.n k.hand.cell) k
       filled =
           subst (λ (x : Task). Fills (shown d p) (filled_to x.stage d.n x.hand.cell) x) (task_as d p t k e l)
-          (fills_to (task d p t).stage (task d p t) (ap (λ (x : Task). fills x.stage) (task_as d p t k e l) ∙ sym f ∙ not-false b q) (s.tasks t))
+          (fills_to (task d p t).stage (task d p t) (ap (λ (x : Task). fills x.stage) (task_as d p t k e l) ∙ q) (s.tasks t))
 
       -- the logs before the cell in hand are empty
       empty : (i : ℕ) → i < filled_to k.stage d.n k.hand.cell → i < d.n → length_of d.n (block_part p d k.target) i ≡ 0
@@ -72,17 +66,12 @@ module _ (d : Sizes) (p : List ℕ) where
           sym (log-length_at d.n (block_part p d k.target) i o)
           ∙ ap (λ (x : Block). length (log_at x i)) (sym (view_block_at d p k.target filling-target)) ∙ ap length (filled.emptied i m)
 
-      pub filling-last : (r : ℕ) → r ≡ bump_of (block_part p d k.target) → eqb r 0 ≡ filling_at d p t
-      unfolding filling_at
+      pub filling-last : (r : ℕ) → r ≡ bump_of (block_part p d k.target) → eqb r 0 ≡ filling_in (filled_to k.stage d.n k.hand.cell) d.n (block_part p d k.target)
       filling-last r g =
           same (eqb r 0) (filling_in (filled_to k.stage d.n k.hand.cell) d.n (block_part p d k.target))
           (decide_as (decide_eq r 0)
           (λ z. record { sized = block-sized s.spans k.target filling-target; bump = sym g ∙ z; empty = empty })
           (λ h. g ∙ h.bump))
           (filling_decides (filled_to k.stage d.n k.hand.cell) d.n (block_part p d k.target))
-          ∙ rw (task_as d p t k e l, ← f, not-false b q)
 
-  pub facts_spans : Facts → Spans d p
-  facts_spans s = s.spans
-
-pub ruleset fillers = (filling-none, filling-target, filling-last, facts_spans)
+pub ruleset fillers = (task_as, filling-target, filling-last)

@@ -1,3 +1,4 @@
+pub mod Rule
 pub mod First
 pub mod Check
 pub mod Seven

@@ -1,14 +1,12 @@
--- Rule 7's task rows: one law for each way out, and what keeps the sums of steps in 32 bits.
+-- Rule 7's task rows: what an idle task is, which rows can be read, and what keeps the sums of steps in 32 bits.
 -- Rests on Broken, DecideTasks and the rules' bounds on steps.
-use Rattle.std.specs.Prelude.{◌*◌, ◌+◌, ◌-◌, ◌/◌, ◌<◌, ◌^◌, ◌≤◌, suc, zero, ℕ, Bool, ◌&&◌, false, not, true, List, eqb, leb, get_or, Err, Ok, Result}
-use Rattle.std.proofs.Common.{◌∙◌, ap, subst, sym, pow-suc, pow_pos}
+use Rattle.std.specs.Prelude.{◌*◌, ◌+◌, ◌-◌, ◌/◌, ◌<◌, ◌^◌, ◌≤◌, suc, zero, ℕ, Bool, false, true, List, eqb, get_or, Err, Ok, Result, IsTrue, ◌↔◌}
+use Rattle.std.proofs.Common.{true≢false, ◌∙◌, ap, subst, sym, pow-suc, pow_pos}
 use Rattle.std.proofs.Math.Path.{◌≡◌, refl}
 use native.Mathlib.Omega.{arith}
 use Rattle.std.proofs.lemmas.Nat.{leading_le, leading_length}
 use Rattle.std.specs.Int.Count.{count_leading_zeros}
-use borrow.Author.Tests.{eq-eqb, le-leb, lt-leb, lt-ltb, ne_eqb}
-use Rattle.rulebook.specs.declared.Hand.{Hand}
-use Rattle.rulebook.specs.declared.Reading.{Reading}
+use borrow.Author.Tests.{le-leb, lt-ltb}
 use Rattle.rulebook.specs.declared.Sizes.{Sizes}
 use Rattle.rulebook.specs.declared.Stage.{Stage}
 use Rattle.rulebook.specs.declared.Task.{Task}
@@ -19,42 +17,19 @@ use Rattle.layout.specs.Ranges.{task-ranged, task_row}
 use Rattle.layout.specs.Rows.{Ranged, most_steps, stands_in, task_fits, task_read, task_row_of, works_in}
 use Rattle.layout.specs.View.{view_task_at}
 use Rattle.rulebook.specs.Sizes.{most_cells}
+use Rattle.rulebook.specs.State.{idle}
 use Rattle.rulebook.specs.Tests.{by_test}
-use Rattle.rules.specs.Paced.{TaskRange, copy_steps, digits-few, product-few, steps-few}
-use Rattle.theorems.specs.Prices.Digits.{digits_half, left_of}
+use Rattle.survey.specs.Decide.{same}
+use Rattle.rules.specs.Paced.{Pace, TaskRange, digits-few, product-few, steps-few}
+use Rattle.theorems.specs.Prices.Digits.{digits_half}
 use Rattle.theorems.specs.Terms.{digits, digits_in}
 use Rattle.survey.specs.Broken.{task_sound}
-use Rattle.survey.specs.Holds.{bare_hand, bare_task, pace_holds, range_holds}
+use Rattle.survey.specs.Holds.{pace_holds, range_holds}
 use Rattle.survey.specs.DecideTasks.{range_decides}
 use Rattle.survey.specs.Rules.{task}
-use Rattle.rulebook.specs.declared.Reading.TheVariants as reading
 use Rattle.rulebook.specs.declared.Stage.TheVariants as stage
 use Rattle.rulebook.specs.Codes.{damaged}
 use Rattle.rulebook.specs.declared.Damaged.{Damaged}
-
--- ---- an idle task, in parts
-
-unfoldable pub bare_search : Hand → Bool
-bare_search w = eqb w.lo 0 && (eqb w.hi 0 && (not w.found && (eqb w.candidate 0 && eqb w.version 0)))
-
-unfoldable pub bare_rest : Task → Bool
-bare_rest k = eqb k.until 0 && (eqb k.fresh 0 && (eqb k.target 0 && (eqb k.steps 0 && bare_hand k.hand)))
-
--- past the tests on its bounds: the flag is no number
-module _ (w : Hand) (a : w.lo ≡ 0) (b : w.hi ≡ 0) where
-  pub search_found : w.found ≡ true → false ≡ bare_search w
-  unfolding bare_search
-  search_found f = rw (eq-eqb w.lo 0 a, eq-eqb w.hi 0 b, f)
-
-  pub search_candidate : w.found ≡ false → (w.candidate ≡ 0 → ⊥) → false ≡ bare_search w
-  unfolding bare_search
-  search_candidate f c = rw (eq-eqb w.lo 0 a, eq-eqb w.hi 0 b, f, ne_eqb w.candidate 0 c)
-
-  pub search_version : w.found ≡ false → w.candidate ≡ 0 → eqb w.version 0 ≡ bare_search w
-  unfolding bare_search
-  search_version f c = rw (eq-eqb w.lo 0 a, eq-eqb w.hi 0 b, f, eq-eqb w.candidate 0 c)
-
-pub ruleset bares = (eq-eqb, ne_eqb, search_found, search_candidate, search_version)
 
 -- ---- binary digits
 
@@ -72,20 +47,7 @@ digits_as m h =
     let e : 32 - count_leading_zeros 32 m ≡ s.0 = omega (arith, s.1) in
     e ∙ sym (digits_width s.0 m s.2 s.3)
 
-module _ (n g : ℕ) (r : Reading) (w : Hand) where
-  pub left-guess : r ≡ reading.Guess → g ≡ digits n → 3 + g ≡ left_of n r w
-  left-guess e f = rw (e, f)
-
-  pub left-version : r ≡ reading.Version → g ≡ digits n → 2 + g ≡ left_of n r w
-  left-version e f = rw (e, f)
-
-  pub left-length : r ≡ reading.Length → g ≡ digits n → 1 + g ≡ left_of n r w
-  left-length e f = rw (e, f)
-
-  pub left_probe : (m : ℕ) → r ≡ reading.Probe → m ≡ w.hi - w.lo → g ≡ digits m → g ≡ left_of n r w
-  left_probe m e o f = f ∙ rw (e, o)
-
-pub ruleset lefts = (digits_as, leading_le, left-guess, left-version, left-length, left_probe)
+pub ruleset lefts = (digits_as, leading_le)
 
 -- ---- the most steps
 
@@ -113,13 +75,7 @@ module _ (n : ℕ) (few : n ≤ most_cells) (g : ℕ) where
   pub page-fits : (a b : ℕ) → b < n → g ≤ 16 → (b - a + 1) * g < 4294967296
   page-fits a b l s = let z = product-few (b - a + 1) g (omega arith) (omega arith) in omega arith
 
-pub copy_is : (n c g : ℕ) → g ≡ digits n → 2 + c * (4 + g) ≡ copy_steps n c
-copy_is n c g e = rw e
-
-pub page-is : (n m g : ℕ) → g ≡ 3 + digits n → m * g ≡ m * (3 + digits n)
-page-is n m g e = rw e
-
-pub ruleset mosts = (most-get, product-fits, sum_fits, most-copy, copy_is, page-fits, page-is)
+pub ruleset mosts = (most-get, product-fits, sum_fits, most-copy, page-fits)
 
 -- ---- stage by stage
 
@@ -127,81 +83,42 @@ pub ruleset mosts = (most-get, product-fits, sum_fits, most-copy, copy_is, page-
 unfoldable pub pace_at : ℕ → Stage → Task → Bool
 pace_at n g k = pace_holds n g k
 
--- a task whose numbers are small enough to compute its pace
-pub record Steady (n : ℕ) (k : Task) : Type 0 where
-  pub cells : n ≤ most_cells
-  pub on : k.hand.cell < n
-  pub steps : k.steps < most_steps
+-- of a task in its ranges only the pace is left to ask
+pace-left : (d : Sizes) (k : Task) → Ranged d k → pace_holds d.n k.stage k ≡ range_holds d k
+unfolding range_holds
+pace-left d k r =
+    rw (
+      lt-ltb k.slot d.h r.slot,
+      lt-ltb k.block d.b r.block,
+      le-leb k.number d.n r.number,
+      lt-ltb k.cell d.n r.cell,
+      le-leb k.until d.n r.until,
+      lt-ltb k.fresh d.h r.fresh,
+      lt-ltb k.target d.b r.target,
+      lt-ltb k.hand.cell d.n r.hand,
+    )
 
-module _ (n : ℕ) (k : Task) where
-  pub within-is : (r : Reading) (l m : ℕ) → l ≡ left_of n r k.hand → leb (k.steps + l) m ≡ leb (k.steps + left_of n r k.hand) m
-  within-is r l m e = rw e
+-- that of an idle task is that it is `idle`
+pub idle-is : (d : Sizes) (k x : Task) → Ranged d k → k.stage ≡ stage.Idle → x ≡ idle → (r : Bool) → (IsTrue r ↔ (k ≡ x)) → r ≡ pace_at d.n k.stage k
+unfolding pace_at
+idle-is d k x s e z r h =
+    same r (range_holds d k) (record {
+      yes = λ t. record {
+        slot_below = s.slot;
+        block_below = s.block;
+        number_within = s.number;
+        cell_below = s.cell;
+        until_within = s.until;
+        fresh_below = s.fresh;
+        target_below = s.target;
+        hand_below = s.hand;
+        pace = subst (λ (g : Stage). Pace d.n g k) (sym e) (h.0 t ∙ z);
+      };
+      no = λ t f. true≢false (sym (h.1 (subst (λ (g : Stage). Pace d.n g k) e f.pace ∙ sym z)) ∙ t);
+    }) (range_decides d k)
+    ∙ sym (pace-left d k s)
 
-  pub new_is : eqb k.steps (k.hand.cell + 1) ≡ pace_at n stage.FillNew k
-  unfolding pace_at
-  new_is = refl
-
-  pub fill_is : (m : ℕ) → m ≡ copy_steps n k.hand.cell + (3 + digits n) → leb k.steps m ≡ pace_at n stage.FillCopy k
-  unfolding pace_at
-  fill_is m e = rw e
-
-  pub put_is : (m : ℕ) → m ≡ copy_steps n n → leb k.steps m ≡ pace_at n stage.Put k
-  unfolding pace_at
-  put_is m e = rw e
-
-  module _ (r : Reading) where
-    pub page_far : k.hand.cell < k.cell → false ≡ pace_at n (stage.Paging r) k
-    unfolding pace_at
-    page_far l = rw (lt-leb k.cell k.hand.cell l)
-
-    module _ (m : ℕ) (x : Bool) (f : x ≡ leb (k.steps + left_of n r k.hand) m) where
-      pub get-is : m ≡ 3 + digits n → x ≡ pace_at n (stage.Getting r) k
-      unfolding pace_at
-      get-is e = f ∙ rw e
-
-      pub copying-is : m ≡ copy_steps n k.hand.cell + (3 + digits n) → x ≡ pace_at n (stage.Copying r) k
-      unfolding pace_at
-      copying-is e = f ∙ rw e
-
-      pub paging-is : k.cell ≤ k.hand.cell → m ≡ (k.hand.cell - k.cell + 1) * (3 + digits n) → x ≡ pace_at n (stage.Paging r) k
-      unfolding pace_at
-      paging-is l e = f ∙ rw (le-leb k.cell k.hand.cell l, e)
-
-  -- the stage that was met
-  module _ (g : Stage) where
-    pub at-idle : (x : Bool) → g ≡ stage.Idle → x ≡ bare_task k → x ≡ pace_at n g k
-    unfolding pace_at
-    at-idle x e f = f ∙ rw e
-
-    pub at_take-new : g ≡ stage.TakeNew → eqb k.steps 0 ≡ pace_at n g k
-    unfolding pace_at
-    at_take-new e = rw e
-
-    pub at-exchange : g ≡ stage.Exchange → eqb k.steps 0 ≡ pace_at n g k
-    unfolding pace_at
-    at-exchange e = rw e
-
-    pub at_read : g ≡ stage.Read → eqb k.steps 1 ≡ pace_at n g k
-    unfolding pace_at
-    at_read e = rw e
-
-    pub at-append : g ≡ stage.Append → eqb k.steps 2 ≡ pace_at n g k
-    unfolding pace_at
-    at-append e = rw e
-
-    pub at-write : g ≡ stage.Write → eqb k.steps 3 ≡ pace_at n g k
-    unfolding pace_at
-    at-write e = rw e
-
-    pub at_take-copy : g ≡ stage.TakeCopy → eqb k.steps 1 ≡ pace_at n g k
-    unfolding pace_at
-    at_take-copy e = rw e
-
-    -- a stage's own function
-    pub at_same : (x : Bool) (q : Stage) → g ≡ q → x ≡ pace_at n q k → x ≡ pace_at n g k
-    at_same x q e f = f ∙ rw e
-
-pub ruleset paces = (within-is, new_is, fill_is, put_is, page_far, get-is, copying-is, paging-is, at-idle, at_take-new, at-exchange, at_read, at-append, at-write, at_take-copy, at_same)
+pub ruleset paces = (idle-is)
 
 -- ---- a row
 
@@ -220,21 +137,6 @@ row_reads d w a b = rw (a, b)
 code_test : (w : List ℕ) → eqb (code_of (task_read w).stage) (get_or w 0 0) ≡ is_code (get_or w 0 0)
 unfolding task_read is_code
 code_test w = refl
-
--- of a task in its ranges only the pace is left to ask
-pace-left : (d : Sizes) (k : Task) → Ranged d k → pace_holds d.n k.stage k ≡ range_holds d k
-unfolding range_holds
-pace-left d k r =
-    rw (
-      lt-ltb k.slot d.h r.slot,
-      lt-ltb k.block d.b r.block,
-      le-leb k.number d.n r.number,
-      lt-ltb k.cell d.n r.cell,
-      le-leb k.until d.n r.until,
-      lt-ltb k.fresh d.h r.fresh,
-      lt-ltb k.target d.b r.target,
-      lt-ltb k.hand.cell d.n r.hand,
-    )
 
 -- a task in its ranges and at its pace fits its row
 range-fits : (d : Sizes) (k : Task) → d.n ≤ most_cells → TaskRange d k → task_fits d k ≡ true
@@ -258,8 +160,8 @@ module _ (d : Sizes) (p : List ℕ) (t : ℕ) (y : Result Task Damaged) (e : y �
     unfolding task_in
     row = task_row d k (task_part p d t) (sym (sym f ∙ e))
 
-    pub row_steady : Spans d p → Steady d.n k
-    row_steady sp = let r = task-ranged d k row.1 in record { cells = sp.cells; on = r.hand; steps = r.steps }
+    pub row-ranged : Ranged d k
+    row-ranged = task-ranged d k row.1
 
     pub row-sound : (r : Bool) → t < d.t → r ≡ pace_at d.n k.stage k → r ≡ task_sound d p t
     unfolding task_sound pace_at task_in
@@ -282,4 +184,4 @@ module _ (d : Sizes) (p : List ℕ) (t : ℕ) (y : Result Task Damaged) (e : y �
           row_reads d (task_part p d t) (sym (code_test (task_part p d t)) ∙ a)
           (range-fits d (task_read (task_part p d t)) sp.cells (subst (TaskRange d) (view_task_at d p t l) ((range_decides d (task d p t)).yes b)))
 
-pub ruleset rows = (row_steady, row-sound, row-bad)
+pub ruleset rows = (row-ranged, row-sound, row-bad)

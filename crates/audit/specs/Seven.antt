@@ -1,28 +1,25 @@
--- Rule 7's functions on rows and blocks: one law for each way out.
+-- Rule 7's functions on rows and blocks: what a task's ranges give, which rows can be read, and which words are laid out.
 -- Rests on Broken, Ways and the deciding of each part.
-use Rattle.std.specs.Prelude.{◌+◌, ◌<◌, ◌≤◌, ℕ, Bool, false, not, true, List, eqb, leb, ltb, get_or, Err, Ok, Result}
-use Rattle.std.proofs.Math.Bool.{and-true}
+use Rattle.std.specs.Prelude.{◌+◌, ◌<◌, ◌≤◌, ℕ, Bool, false, true, List, ltb, get_or, Err, Ok, Result}
 use Rattle.std.proofs.Common.{◌∙◌, ap, sym}
 use Rattle.std.proofs.Math.Path.{◌≡◌, subst}
 use native.Mathlib.Omega.{arith}
-use borrow.Author.Tests.{eq-eqb, le-leb, lt-leb, lt-ltb, ltb-true, ne_eqb, not-false, not-true}
+use borrow.Author.Tests.{le-leb, lt-ltb, ltb-true}
 use Rattle.rulebook.specs.declared.Sizes.{Sizes}
 use Rattle.rulebook.specs.declared.Slot.{Slot}
 use Rattle.rulebook.specs.declared.Task.{Task}
-use Rattle.block.specs.Layout.{version_of}
 use Rattle.block.specs.Sound.{Laid}
 use Rattle.block.specs.Walk.{Decides}
-use Rattle.layout.specs.Places.{Spans, block_part, slot_part, task_part}
+use Rattle.layout.specs.Places.{Spans, slot_part, task_part}
 use Rattle.layout.specs.Pool.{slot_in, view_of}
 use Rattle.layout.specs.Ranges.{slot_row}
 use Rattle.layout.specs.Rows.{slot_fits, slot_read, slot_row_of, task_read}
 use Rattle.layout.specs.View.{view_slot_at}
 use Rattle.rulebook.specs.Sizes.{last_serial}
-use Rattle.rulebook.specs.State.{is_live, stood, writes}
+use Rattle.rulebook.specs.State.{is_live}
 use Rattle.rulebook.specs.Tests.{by_test}
 use Rattle.rules.specs.Paced.{Paced, SlotRange, TaskRange}
-use Rattle.theorems.specs.Terms.{all_to}
-use Rattle.survey.specs.Broken.{laid_at, not_above, slot_sound, writer_apart, writer_at}
+use Rattle.survey.specs.Broken.{slot_sound}
 use Rattle.survey.specs.Holds.{laid_in, slot_holds}
 use Rattle.survey.specs.Decide.{same}
 use Rattle.survey.specs.DecideBlocks.{laid_decides}
@@ -35,88 +32,20 @@ use Rattle.rulebook.specs.declared.Damaged.{Damaged}
 
 -- ---- writers
 
-module _ (d : Sizes) (p : List ℕ) where
-  module _ (t : ℕ) (k : Task) (e : k ≡ task_read (task_part p d t)) (l : t < d.t) (b : Bool) (f : b ≡ writes k.stage) where
-    module _ (x : Task) (u : ℕ) where
-      pub writer-idle : not b ≡ true → true ≡ writer_apart d p x u t
-      unfolding writer_apart
-      writer-idle q = rw (task_as d p t k e l, ← f, not-true b q)
+module _ (d : Sizes) (p : List ℕ) (t : ℕ) (k : Task) (e : k ≡ task_read (task_part p d t)) (l : t < d.t) (pc : Paced (shown d p)) where
+  in_range : TaskRange d k
+  unfolding view_of
+  in_range = subst (TaskRange d) (task_as d p t k e l) (pc.tasks t)
 
-      pub writer_apart_lem : not b ≡ false → (x.block ≡ k.block → ⊥) → true ≡ writer_apart d p x u t
-      unfolding writer_apart
-      writer_apart_lem q o = rw (task_as d p t k e l, ← f, not-false b q, ne_eqb x.block k.block o)
+  pub writer-block : k.block < d.b
+  writer-block = in_range.block_below
 
-      pub writer-same : not b ≡ false → x.block ≡ k.block → eqb u t ≡ writer_apart d p x u t
-      unfolding writer_apart
-      writer-same q o = rw (task_as d p t k e l, ← f, not-false b q, eq-eqb x.block k.block o)
+  pub writer-next : Spans d p → k.number + 1 < 4294967296
+  writer-next sp = let z = in_range.number_within in let y = sp.cells in omega arith
 
-    pub writer-none : not b ≡ true → true ≡ writer_at d p t
-    unfolding writer_at
-    writer-none q = rw (task_as d p t k e l, ← f, not-true b q)
-
-    module _ (pc : Paced (shown d p)) where
-      in_range : TaskRange d k
-      unfolding view_of
-      in_range = subst (TaskRange d) (task_as d p t k e l) (pc.tasks t)
-
-      pub writer-block : k.block < d.b
-      writer-block = in_range.block_below
-
-      pub writer-next : Spans d p → k.number + 1 < 4294967296
-      writer-next sp = let z = in_range.number_within in let y = sp.cells in omega arith
-
-      module _ (q : not b ≡ false) (v : ℕ) (g : v ≡ version_of (block_part p d k.block)) where
-        pub writer-low : (v ≡ k.number + 1 → ⊥) → false ≡ writer_at d p t
-        unfolding writer_at
-        writer-low o = rw (task_as d p t k e l, ← f, not-false b q, version-here d p k.block writer-block v g, ne_eqb v (k.number + 1) o)
-
-        module _ (o : v ≡ k.number + 1) (c : Bool) (h : c ≡ all_to (writer_apart d p k t) d.t) where
-          pub writer_shared : not c ≡ true → false ≡ writer_at d p t
-          unfolding writer_at
-          writer_shared i = rw (task_as d p t k e l, ← f, not-false b q, version-here d p k.block writer-block v g, eq-eqb v (k.number + 1) o, ← h, not-true c i)
-
-          pub writer-last : not c ≡ false → (r : Bool) → r ≡ all_to (not_above d p k) d.h → r ≡ writer_at d p t
-          unfolding writer_at
-          writer-last i r z = z ∙ rw (task_as d p t k e l, ← f, not-false b q, version-here d p k.block writer-block v g, eq-eqb v (k.number + 1) o, ← h, not-false c i)
-
-  module _ (j : ℕ) (x : Slot) (e : x ≡ slot_read (slot_part p j)) (l : j < d.h) (b : Bool) (k : Task) (f : b ≡ is_live x.status) where
-    pub above-dead : not b ≡ true → true ≡ not_above d p k j
-    unfolding not_above
-    above-dead q = rw (slot_as d p j x e l, ← f, not-true b q)
-
-    pub above_other : not b ≡ false → (x.block ≡ k.block → ⊥) → true ≡ not_above d p k j
-    unfolding not_above
-    above_other q o = rw (slot_as d p j x e l, ← f, not-false b q, ne_eqb x.block k.block o)
-
-    pub above-last : not b ≡ false → x.block ≡ k.block → leb x.number k.number ≡ not_above d p k j
-    unfolding not_above
-    above-last q o = rw (slot_as d p j x e l, ← f, not-false b q, eq-eqb x.block k.block o)
-
-pub ruleset writers = (writer-idle, writer_apart_lem, writer-same, writer-none, writer-block, writer-next, writer-low, writer_shared, writer-last, above-dead, above_other, above-last)
+pub ruleset writers = (task_as, version-here, writer-block, writer-next)
 
 -- ---- slots
-
-module _ (x : Slot) where
-  pub slot-serial : 16777215 < x.serial → false ≡ slot_holds x
-  unfolding slot_holds last_serial
-  slot-serial l = rw (lt-leb x.serial 16777215 l)
-
-  module _ (l : x.serial ≤ 16777215) (b : Bool) (f : b ≡ is_live x.status) where
-    low : leb x.serial last_serial ≡ true
-    unfolding last_serial
-    low = le-leb x.serial 16777215 l
-
-    pub slot_live : b ≡ true → leb 1 x.serial ≡ slot_holds x
-    unfolding slot_holds
-    slot_live q = rw (low, ← f, q)
-
-    pub slot-block : b ≡ false → (x.block ≡ 0 → ⊥) → false ≡ slot_holds x
-    unfolding slot_holds
-    slot-block q o = rw (low, ← f, q, ne_eqb x.block 0 o)
-
-    pub slot-number : b ≡ false → x.block ≡ 0 → eqb x.number 0 ≡ slot_holds x
-    unfolding slot_holds
-    slot-number q o = rw (low, ← f, q, eq-eqb x.block 0 o) (sym (and-true (eqb x.number 0)))
 
 -- a row that was read has a status's code; a row with one, in its ranges, is read
 row-code : (d : Sizes) (x : Slot) (w : List ℕ) → slot_row_of d w ≡ Ok x → get_or w 1 0 < 3
@@ -173,15 +102,11 @@ module _ (d : Sizes) (p : List ℕ) (j : ℕ) (l : j < d.h) (y : Result Slot Dam
           number : (slot_read (slot_part p j)).status ≡ status.Live → (slot_read (slot_part p j)).number ≤ d.n
           number v = subst (λ (x : Slot). x.number ≤ d.n) (view_slot_at d p j l) (two.at_most_n j (lives v))
 
+pub ruleset slots = (slot_row-sound, slot-bad-sound)
+
 -- ---- blocks
 
-module _ (d : Sizes) (p : List ℕ) (k : ℕ) (b : Bool) (e : b ≡ stood (shown d p) k) where
-  pub laid_free : not b ≡ true → true ≡ laid_at d p k
-  unfolding laid_at
-  laid_free q = rw (← e, not-true b q)
+pub laid-is : (n : ℕ) (w : List ℕ) (r : Bool) → Decides r (Laid n w) → r ≡ laid_in n w
+laid-is n w r f = same r (laid_in n w) f (laid_decides n w)
 
-  pub laid-stood : not b ≡ false → (r : Bool) → Decides r (Laid d.n (block_part p d k)) → r ≡ laid_at d p k
-  unfolding laid_at
-  laid-stood q r f = same r (laid_in d.n (block_part p d k)) f (laid_decides d.n (block_part p d k)) ∙ rw (← e, not-false b q)
-
-pub ruleset slots = (slot-serial, slot_live, slot-block, slot-number, slot_row-sound, slot-bad-sound, laid_free, laid-stood)
+pub ruleset laids = (laid-is)

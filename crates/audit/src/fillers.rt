@@ -4,32 +4,23 @@ ghost use Rattle.theorems.specs.Terms.{all_to};
 ghost use Rattle.survey.specs.Broken.{filling_at};
 ghost use Rattle.audit.specs.Fillers.{Facts};
 
-use acts::tasks::fills_block;
-use rulebook::Sizes;
+use pool::Pool;
+use survey::all_below;
 
-fn filling_at(words: &[u32], d: Sizes, t: u32) -> bool
-    requires { Facts d words.now × (t < d.t) }
-    ensures { result ≡ filling_at d words.now t }
+#[tactic(auto, unfolding(survey::specs::Broken::filling_at), using(crate::specs::Fillers::fillers))]
+fn filling_at(pool: Pool<'_>, index: u32) -> bool
+    requires facts { Facts pool.sizes pool.words.now }
+    requires there { index < pool.sizes.t }
+    ensures { result ≡ filling_at pool.entry.sizes pool.entry.words.now index }
 {
-    let k = pool::task_at(words, d, t);
-    let g = k.stage;
-    if !fills_block(g) {
-        return true;
-    }
-    pool::raw_bump(words, d, k.target) == 0
+    let task = pool.raw_task(index);
+    !task.stage.fills_block() || pool.raw_bump(task.target) == 0
 }
 
 // Where each task's own facts hold.
-pub fn fillers_laid(words: &[u32], d: Sizes) -> bool
-    requires { Facts d words.now }
-    ensures { result ≡ all_to (filling_at d words.now) d.t }
+pub fn fillers_laid(pool: Pool<'_>) -> bool
+    requires { Facts pool.sizes pool.words.now }
+    ensures { result ≡ all_to (filling_at pool.entry.sizes pool.entry.words.now) pool.entry.sizes.t }
 {
-    let mut t = 0;
-    while t < d.t {
-        if !filling_at(words, d, t) {
-            return false;
-        }
-        t += 1;
-    }
-    true
+    all_below(pool.sizes.t, move |index| filling_at(pool, index))
 }

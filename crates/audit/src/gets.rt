@@ -1,86 +1,53 @@
 // Rule 7: what a task that reads has in hand.
-ghost use Rattle.std.specs.Prelude.{◌≡◌, ◌<◌, ◌≤◌, length};
-ghost use Rattle.theorems.specs.Terms.{all_to};
-ghost use Rattle.layout.specs.Places.{Spans, block_part};
+ghost use Rattle.std.specs.Prelude.{◌≡◌, ◌<◌, length};
+ghost use Rattle.layout.specs.Places.{block_part};
 ghost use Rattle.survey.specs.Logs.{Walkable};
 ghost use Rattle.survey.specs.Rules.{shown};
 ghost use Rattle.survey.specs.Holds.{gets_in, seeks_in};
-ghost use Rattle.audit.specs.Gets.{Log, candidate_in, log_in, older_in};
+ghost use Rattle.audit.specs.Gets.{Log, candidate_in, log_in};
 
-use rulebook::{Reading, Sizes, Task};
+use super::logs::all_older;
+use pool::Pool;
+use rulebook::{Reading, Task};
 
-// Entry j of the log of cell i of block k is older than l.
-fn is_older(words: &[u32], d: Sizes, k: u32, i: u32, l: u32, j: u32) -> bool
-    requires { Log d words.now k i × (j < length (log_in d words.now k i)) }
-    ensures { result ≡ older_in d words.now k i l j }
+// The task's candidate has the version of the entry at hi, in a log of so many entries.
+#[tactic(auto, unfolding(crate::specs::Gets::candidate_in), using(crate::specs::Gets::gets))]
+fn candidate_holds(pool: Pool<'_>, task: Task, entries: u32) -> bool
+    requires log { Log pool.sizes pool.words.now task.block task.hand.cell }
+    requires all { entries ≡ length (log_in pool.sizes pool.words.now task.block task.hand.cell) }
+    ensures { result ≡ candidate_in (log_in pool.entry.sizes pool.entry.words.now task.block task.hand.cell) task.number task.hand }
 {
-    let at = pool::raw_stamp(words, d, k, i, j);
-    at < l
+    let hand = task.hand;
+    hand.hi < entries
+        && hand.version == pool.raw_stamp(task.block, hand.cell, hand.hi)
+        && task.number <= hand.version
 }
 
-// Every entry before lo is.
-fn all_older(words: &[u32], d: Sizes, k: u32, i: u32, l: u32, lo: u32) -> bool
-    requires { Log d words.now k i × (lo ≤ length (log_in d words.now k i)) }
-    ensures { result ≡ all_to (older_in d words.now k i l) lo }
+// The task's search: its bounds lie in the log, and what it has passed by is older.
+#[tactic(auto, unfolding(survey::specs::Holds::seeks_in, crate::specs::Gets::candidate_in, crate::specs::Gets::older_in), using(crate::specs::Gets::gets))]
+fn seeks_in(pool: Pool<'_>, task: Task) -> bool
+    requires { Log pool.sizes pool.words.now task.block task.hand.cell }
+    ensures { result ≡ seeks_in (log_in pool.entry.sizes pool.entry.words.now task.block task.hand.cell) task.number task.hand }
 {
-    let mut j = 0;
-    while j < lo {
-        if !is_older(words, d, k, i, l, j) {
-            return false;
-        }
-        j += 1;
-    }
-    true
+    let hand = task.hand;
+    let entries = pool.raw_length(task.block, hand.cell);
+    hand.lo < hand.hi
+        && hand.hi <= entries
+        && all_older(pool, task.block, hand.cell, task.number, hand.lo)
+        && (!hand.found || candidate_holds(pool, task, entries))
 }
 
-// The candidate of task k, whose log has m entries, has the version of the entry at hi.
-fn candidate_holds(words: &[u32], d: Sizes, k: Task, m: u32) -> bool
-    requires { Log d words.now k.block k.hand.cell × (m ≡ length (log_in d words.now k.block k.hand.cell)) }
-    ensures { result ≡ candidate_in (log_in d words.now k.block k.hand.cell) k.number k.hand }
+// The get that the task has in hand.
+#[tactic(auto, unfolding(survey::specs::Holds::gets_in, crate::specs::Gets::log_in), using(crate::specs::Gets::gets))]
+pub fn gets_in(pool: Pool<'_>, task: Task, reading: Reading) -> bool
+    requires block { task.block < pool.sizes.b }
+    requires logs { Walkable pool.sizes.n (block_part pool.words.now pool.sizes task.block) }
+    requires cell { task.hand.cell < pool.sizes.n }
+    ensures { result ≡ gets_in (shown pool.entry.sizes pool.entry.words.now) reading task }
 {
-    let w = k.hand;
-    if m <= w.hi {
-        return false;
-    }
-    let at = pool::raw_stamp(words, d, k.block, w.cell, w.hi);
-    if w.version != at {
-        return false;
-    }
-    k.number <= at
-}
-
-// The search of task k: its bounds lie in the log, and what it has passed by is older.
-fn seeks_in(words: &[u32], d: Sizes, k: Task) -> bool
-    requires { Log d words.now k.block k.hand.cell }
-    ensures { result ≡ seeks_in (log_in d words.now k.block k.hand.cell) k.number k.hand }
-{
-    let w = k.hand;
-    if w.hi <= w.lo {
-        return false;
-    }
-    let m = pool::raw_length(words, d, k.block, w.cell);
-    if m < w.hi {
-        return false;
-    }
-    if !all_older(words, d, k.block, w.cell, k.number, w.lo) {
-        return false;
-    }
-    if !w.found {
-        return true;
-    }
-    candidate_holds(words, d, k, m)
-}
-
-// The get that task k has in hand, which is at r.
-pub fn gets_in(words: &[u32], d: Sizes, k: Task, r: Reading) -> bool
-    requires { Spans d words.now × (k.block < d.b) × Walkable d.n (block_part words.now d k.block) × (k.hand.cell < d.n) }
-    ensures { result ≡ gets_in (shown d words.now) r k }
-{
-    let w = k.hand;
-    match r {
+    match reading {
         Reading::Guess => true,
-        Reading::Version => !w.found,
-        Reading::Length => !w.found,
-        Reading::Probe => seeks_in(words, d, k),
+        Reading::Version | Reading::Length => !task.hand.found,
+        Reading::Probe => seeks_in(pool, task),
     }
 }

@@ -4,6 +4,7 @@
 mod facts;
 mod fillers;
 mod gets;
+mod logs;
 mod logs_done;
 mod order;
 mod paces;
@@ -11,4 +12,4 @@ mod seven;
 mod slots;
 mod writers;
 
-pub use order::check;
+pub use order::{Rule, check};

@@ -2,155 +2,117 @@
 ghost use Rattle.std.specs.Prelude.{◌≡◌, ◌<◌, ◌≤◌};
 ghost use Rattle.rulebook.specs.State.{block_at};
 ghost use Rattle.theorems.specs.Terms.{all_to};
-ghost use Rattle.layout.specs.Places.{Spans, block_part};
+ghost use Rattle.layout.specs.Places.{block_part};
 ghost use Rattle.survey.specs.Logs.{Walkable};
 ghost use Rattle.survey.specs.Rules.{shown};
 ghost use Rattle.survey.specs.Holds.{all_below, fills_to, to_append, to_write};
 ghost use Rattle.survey.specs.Tally.{Counts};
-ghost use Rattle.audit.specs.LogsDone.{empty_at, cell_below, other_below, cell_from};
+ghost use Rattle.audit.specs.LogsDone.{cell_below, empty_at, other_below};
 
-use rulebook::{Sizes, Task};
+use super::logs::all_older;
+use pool::Pool;
+use rulebook::Task;
+use survey::all_below;
 use survey::tally::entries_of;
 
 // ---- a block that is filled
 
-// The log of cell i of block k is empty.
-fn is_empty(words: &[u32], d: Sizes, k: u32, i: u32) -> bool
-    requires { Spans d words.now × (k < d.b) × (i < d.n) }
-    ensures { result ≡ empty_at d words.now k i }
+// The cell's log is empty.
+#[tactic(auto, unfolding(crate::specs::LogsDone::empty_at), using(crate::specs::LogsDone::empties))]
+fn is_empty(pool: Pool<'_>, block: u32, cell: u32) -> bool
+    requires block { block < pool.sizes.b }
+    requires cell { cell < pool.sizes.n }
+    ensures { result ≡ empty_at pool.entry.sizes pool.entry.words.now block cell }
 {
-    pool::raw_length(words, d, k, i) == 0
+    pool.raw_length(block, cell) == 0
 }
 
-// The logs of the cells before cell c are.
-fn all_empty(words: &[u32], d: Sizes, k: u32, c: u32) -> bool
-    requires { Spans d words.now × (k < d.b) × (c ≤ d.n) }
-    ensures { result ≡ all_to (empty_at d words.now k) c }
+// The logs of so many cells are.
+fn all_empty(pool: Pool<'_>, block: u32, cells: u32) -> bool
+    requires block { block < pool.sizes.b }
+    requires cells { cells ≤ pool.sizes.n }
+    ensures { result ≡ all_to (empty_at pool.entry.sizes pool.entry.words.now block) cells }
 {
-    let mut i = 0;
-    while i < c {
-        if !is_empty(words, d, k, i) {
-            return false;
-        }
-        i += 1;
-    }
-    true
+    all_below(cells, move |cell| is_empty(pool, block, cell))
 }
 
-// The task has filled its block up to cell c.
-pub fn fills_to(words: &[u32], d: Sizes, c: u32, k: Task) -> bool
-    requires { Spans d words.now × (k.target < d.b) × (c ≤ d.n) }
-    ensures { result ≡ fills_to (shown d words.now) c k }
+// The task has filled so many cells of its block.
+#[tactic(auto, unfolding(survey::specs::Holds::fills_to, crate::specs::LogsDone::empty_at, crate::specs::Gets::log_in), using(crate::specs::LogsDone::dones))]
+pub fn fills_to(pool: Pool<'_>, cells: u32, task: Task) -> bool
+    requires block { task.target < pool.sizes.b }
+    requires cells { cells ≤ pool.sizes.n }
+    ensures { result ≡ fills_to (shown pool.entry.sizes pool.entry.words.now) cells task }
 {
-    let v = pool::raw_version(words, d, k.target);
-    if v != 0 {
-        return false;
-    }
-    all_empty(words, d, k.target, c)
+    pool.raw_version(task.target) == 0 && all_empty(pool, task.target, cells)
 }
 
 // ---- the versions in a block that can be read
 
-// Those in the log of cell i of block k are below v.
-fn cell_below(words: &[u32], d: Sizes, k: u32, i: u32, v: u32) -> bool
-    requires { Counts d words.now k × (i < d.n) }
-    ensures { result ≡ cell_below d words.now k v i }
+// Those in the cell's log are below the number.
+#[tactic(auto, unfolding(crate::specs::LogsDone::cell_below), using(crate::specs::LogsDone::logs))]
+fn cell_below(pool: Pool<'_>, block: u32, number: u32, cell: u32) -> bool
+    requires counts { Counts pool.sizes pool.words.now block }
+    requires cell { cell < pool.sizes.n }
+    ensures { result ≡ cell_below pool.entry.sizes pool.entry.words.now block number cell }
 {
-    let m = pool::raw_length(words, d, k, i);
-    let mut q = 0;
-    while q < m {
-        let at = pool::raw_stamp(words, d, k, i, q);
-        if v <= at {
-            return false;
-        }
-        q += 1;
-    }
-    true
+    all_older(pool, block, cell, number, pool.raw_length(block, cell))
 }
 
-// One of them is not.
-fn some_from(words: &[u32], d: Sizes, k: u32, i: u32, v: u32) -> bool
-    requires { Counts d words.now k × (i < d.n) }
-    ensures { result ≡ cell_from d words.now k v i }
+// Those in every log are below the number.
+#[tactic(auto, using(crate::specs::LogsDone::dones))]
+fn block_below(pool: Pool<'_>, block: u32, number: u32) -> bool
+    requires { Counts pool.sizes pool.words.now block }
+    ensures { result ≡ all_below (block_at (shown pool.entry.sizes pool.entry.words.now) block) number }
 {
-    let m = pool::raw_length(words, d, k, i);
-    let mut q = 0;
-    while q < m {
-        let at = pool::raw_stamp(words, d, k, i, q);
-        if v <= at {
-            return true;
-        }
-        q += 1;
-    }
-    false
+    all_below(
+        pool.sizes.n,
+        move |cell| cell_below(pool, block, number, cell),
+    )
 }
 
-// Those in every log are below v.
-fn all_below(words: &[u32], d: Sizes, k: u32, v: u32) -> bool
-    requires { Counts d words.now k }
-    ensures { result ≡ all_below (block_at (shown d words.now) k) v }
+// Those in the cell's log are, or it is the cell that is set.
+#[tactic(auto, unfolding(crate::specs::LogsDone::other_below))]
+fn other_below(pool: Pool<'_>, block: u32, set: u32, number: u32, cell: u32) -> bool
+    requires counts { Counts pool.sizes pool.words.now block }
+    requires cell { cell < pool.sizes.n }
+    ensures { result ≡ other_below pool.entry.sizes pool.entry.words.now block set number cell }
 {
-    let mut i = 0;
-    while i < d.n {
-        if !cell_below(words, d, k, i, v) {
-            return false;
-        }
-        i += 1;
-    }
-    true
+    cell == set || cell_below(pool, block, number, cell)
 }
 
-// Those in the log of cell i are, if it is not cell c.
-fn other_below(words: &[u32], d: Sizes, k: u32, c: u32, v: u32, i: u32) -> bool
-    requires { Counts d words.now k × (i < d.n) }
-    ensures { result ≡ other_below d words.now k c v i }
+fn others_below(pool: Pool<'_>, block: u32, set: u32, number: u32) -> bool
+    requires { Counts pool.sizes pool.words.now block }
+    ensures { result ≡ all_to (other_below pool.entry.sizes pool.entry.words.now block set number) pool.entry.sizes.n }
 {
-    if i == c {
-        return true;
-    }
-    cell_below(words, d, k, i, v)
-}
-
-fn others_below(words: &[u32], d: Sizes, k: u32, c: u32, v: u32) -> bool
-    requires { Counts d words.now k }
-    ensures { result ≡ all_to (other_below d words.now k c v) d.n }
-{
-    let mut i = 0;
-    while i < d.n {
-        if !other_below(words, d, k, c, v, i) {
-            return false;
-        }
-        i += 1;
-    }
-    true
+    all_below(
+        pool.sizes.n,
+        move |cell| other_below(pool, block, set, number, cell),
+    )
 }
 
 // ---- a set in place
 
 // Before its append: every entry is older, and there are few.
-pub fn to_append(words: &[u32], d: Sizes, k: Task) -> bool
-    requires { Spans d words.now × (k.block < d.b) × Walkable d.n (block_part words.now d k.block) }
-    ensures { result ≡ to_append (shown d words.now) k }
+#[tactic(auto, unfolding(survey::specs::Holds::to_append), using(crate::specs::LogsDone::dones))]
+pub fn to_append(pool: Pool<'_>, task: Task) -> bool
+    requires block { task.block < pool.sizes.b }
+    requires logs { Walkable pool.sizes.n (block_part pool.words.now pool.sizes task.block) }
+    ensures { result ≡ to_append (shown pool.entry.sizes pool.entry.words.now) task }
 {
-    if d.n <= k.number {
-        return false;
-    }
-    if !all_below(words, d, k.block, k.number) {
-        return false;
-    }
-    entries_of(words, d, k.block) <= k.number
+    task.number < pool.sizes.n
+        && block_below(pool, task.block, task.number)
+        && entries_of(pool, task.block) <= task.number
 }
 
 // After it: of the logs only that of its cell has an entry that is not.
-pub fn to_write(words: &[u32], d: Sizes, k: Task) -> bool
-    requires { Spans d words.now × (k.block < d.b) × Walkable d.n (block_part words.now d k.block) × (k.cell < d.n) }
-    ensures { result ≡ to_write (shown d words.now) k }
+#[tactic(auto, using(crate::specs::LogsDone::dones))]
+pub fn to_write(pool: Pool<'_>, task: Task) -> bool
+    requires block { task.block < pool.sizes.b }
+    requires logs { Walkable pool.sizes.n (block_part pool.words.now pool.sizes task.block) }
+    requires cell { task.cell < pool.sizes.n }
+    ensures { result ≡ to_write (shown pool.entry.sizes pool.entry.words.now) task }
 {
-    if d.n <= k.number {
-        return false;
-    }
-    if !others_below(words, d, k.block, k.cell, k.number) {
-        return false;
-    }
-    some_from(words, d, k.block, k.cell, k.number)
+    task.number < pool.sizes.n
+        && others_below(pool, task.block, task.cell, task.number)
+        && !cell_below(pool, task.block, task.number, task.cell)
 }

@@ -1,266 +1,126 @@
 // Rule 7: each task's code, its ranges, and its steps by its stage.
 ghost use Rattle.std.specs.Prelude.{◌≡◌, ◌*◌, ◌+◌, ◌-◌, ◌<◌, ◌≤◌, leb};
-ghost use Rattle.layout.specs.Places.{Spans};
-ghost use Rattle.layout.specs.Rows.{most_steps};
+ghost use Rattle.layout.specs.Rows.{Ranged, most_steps};
 ghost use Rattle.rulebook.specs.Sizes.{most_cells};
 ghost use Rattle.rules.specs.Paced.{copy_steps};
 ghost use Rattle.theorems.specs.Prices.Digits.{left_of};
 ghost use Rattle.theorems.specs.Terms.{all_to, digits};
 ghost use Rattle.survey.specs.Broken.{task_sound};
-ghost use Rattle.survey.specs.Holds.{bare_hand, bare_task};
-ghost use Rattle.audit.specs.Paces.{Steady, bare_rest, bare_search, pace_at};
+ghost use Rattle.audit.specs.Paces.{pace_at};
 
-use acts::TaskRow;
+use pool::Pool;
 use rulebook::{Hand, Reading, Sizes, Stage, Task};
-
-// ---- an idle task
-
-// No search is begun.
-fn bare_search(w: Hand) -> bool
-    ensures { result ≡ bare_search w }
-{
-    if w.lo != 0 {
-        return false;
-    }
-    if w.hi != 0 {
-        return false;
-    }
-    if w.found {
-        return false;
-    }
-    if w.candidate != 0 {
-        return false;
-    }
-    w.version == 0
-}
-
-fn bare_hand(w: Hand) -> bool
-    ensures { result ≡ bare_hand w }
-{
-    if w.cell != 0 {
-        return false;
-    }
-    if w.guess != 0 {
-        return false;
-    }
-    bare_search(w)
-}
-
-// What the task works on.
-fn bare_rest(k: Task) -> bool
-    ensures { result ≡ bare_rest k }
-{
-    if k.until != 0 {
-        return false;
-    }
-    if k.fresh != 0 {
-        return false;
-    }
-    if k.target != 0 {
-        return false;
-    }
-    if k.steps != 0 {
-        return false;
-    }
-    let w = k.hand;
-    bare_hand(w)
-}
-
-fn bare_task(k: Task) -> bool
-    ensures { result ≡ bare_task k }
-{
-    if k.slot != 0 {
-        return false;
-    }
-    if k.block != 0 {
-        return false;
-    }
-    if k.number != 0 {
-        return false;
-    }
-    if k.cell != 0 {
-        return false;
-    }
-    if k.value != 0 {
-        return false;
-    }
-    bare_rest(k)
-}
+use survey::all_below;
 
 // ---- a get in hand
 
-// How many binary digits m has.
-fn digits_of(m: u32) -> u32
-    ensures { (result ≡ digits m) × (result ≤ 32) }
+// How many binary digits the number has.
+#[tactic(auto, using(crate::specs::Paces::lefts))]
+fn digits_of(number: u32) -> u32
+    ensures { (result ≡ digits number) × (result ≤ 32) }
 {
-    32 - u32::leading_zeros(m)
+    32 - number.leading_zeros()
 }
 
-// How many entries are left to search; none where the bounds have passed each other.
-fn unsearched(w: Hand) -> u32
-    ensures { result ≡ w.hi - w.lo }
+// The most steps that the get may still take. Where its bounds have passed each other, no entry is left to search.
+fn left_of(cells: u32, reading: Reading, hand: Hand) -> u32
+    ensures { (result ≡ left_of cells reading hand) × (result ≤ 35) }
 {
-    if w.hi < w.lo {
-        return 0;
-    }
-    w.hi - w.lo
-}
-
-// The most steps that the get may still take.
-fn left_of(n: u32, r: Reading, w: Hand) -> u32
-    ensures { (result ≡ left_of n r w) × (result ≤ 35) }
-{
-    match r {
-        Reading::Guess => 3 + digits_of(n),
-        Reading::Version => 2 + digits_of(n),
-        Reading::Length => 1 + digits_of(n),
-        Reading::Probe => digits_of(unsearched(w)),
+    match reading {
+        Reading::Guess => 3 + digits_of(cells),
+        Reading::Version => 2 + digits_of(cells),
+        Reading::Length => 1 + digits_of(cells),
+        Reading::Probe => digits_of(hand.hi.saturating_sub(hand.lo)),
     }
 }
 
 // The task's steps, with those that its get may still take, are at most so many.
-fn ends_within(n: u32, r: Reading, k: Task, most: u32) -> bool
-    requires { k.steps < most_steps }
-    ensures { result ≡ leb (k.steps + left_of n r k.hand) most }
+fn ends_within(cells: u32, reading: Reading, task: Task, most: u32) -> bool
+    requires { task.steps < most_steps }
+    ensures { result ≡ leb (task.steps + left_of cells reading task.hand) most }
 {
-    let w = k.hand;
-    let left = left_of(n, r, w);
-    k.steps + left <= most
+    task.steps + left_of(cells, reading, task.hand) <= most
 }
 
-// ---- the most steps of a get, of a copy of c cells, of the copy of one more, of a page from cell a to cell b
+// ---- the most steps
 
-fn get_most(n: u32) -> u32
-    requires { n ≤ most_cells }
-    ensures { (result ≡ 3 + digits n) × (result ≤ 16) }
+// Of a get.
+#[tactic(auto, using(crate::specs::Paces::mosts))]
+fn get_most(cells: u32) -> u32
+    requires { cells ≤ most_cells }
+    ensures { (result ≡ 3 + digits cells) × (result ≤ 16) }
 {
-    3 + digits_of(n)
+    3 + digits_of(cells)
 }
 
-fn copy_most(n: u32, c: u32) -> u32
-    requires { (n ≤ most_cells) × (c ≤ n) }
-    ensures { (result ≡ copy_steps n c) × (result ≤ 69634) }
+// Of a copy of so many cells.
+#[tactic(auto, using(crate::specs::Paces::mosts))]
+fn copy_most(cells: u32, copied: u32) -> u32
+    requires { (cells ≤ most_cells) × (copied ≤ cells) }
+    ensures { (result ≡ copy_steps cells copied) × (result ≤ 69634) }
 {
-    let g = digits_of(n);
-    2 + c * (4 + g)
+    2 + copied * (4 + digits_of(cells))
 }
 
-fn next_most(n: u32, c: u32) -> u32
-    requires { (n ≤ most_cells) × (c ≤ n) }
-    ensures { result ≡ copy_steps n c + (3 + digits n) }
+// Of the copy of one more.
+fn next_most(cells: u32, copied: u32) -> u32
+    requires { (cells ≤ most_cells) × (copied ≤ cells) }
+    ensures { result ≡ copy_steps cells copied + (3 + digits cells) }
 {
-    copy_most(n, c) + get_most(n)
+    copy_most(cells, copied) + get_most(cells)
 }
 
-fn page_most(n: u32, a: u32, b: u32) -> u32
-    requires { (n ≤ most_cells) × (a ≤ b) × (b < n) }
-    ensures { result ≡ (b - a + 1) * (3 + digits n) }
+// Of a page from one cell to another.
+#[tactic(auto, using(crate::specs::Paces::mosts))]
+fn page_most(cells: u32, from: u32, to: u32) -> u32
+    requires { (cells ≤ most_cells) × (from ≤ to) × (to < cells) }
+    ensures { result ≡ (to - from + 1) * (3 + digits cells) }
 {
-    let g = get_most(n);
-    (b - a + 1) * g
-}
-
-// ---- stage by stage
-
-fn new_paced(n: u32, k: Task) -> bool
-    requires { Steady n k }
-    ensures { result ≡ pace_at n Stage.FillNew k }
-{
-    let w = k.hand;
-    k.steps == w.cell + 1
-}
-
-fn get_paced(n: u32, r: Reading, k: Task) -> bool
-    requires { Steady n k }
-    ensures { result ≡ pace_at n (Stage.Getting r) k }
-{
-    let most = get_most(n);
-    ends_within(n, r, k, most)
-}
-
-fn copy_paced(n: u32, r: Reading, k: Task) -> bool
-    requires { Steady n k }
-    ensures { result ≡ pace_at n (Stage.Copying r) k }
-{
-    let w = k.hand;
-    let most = next_most(n, w.cell);
-    ends_within(n, r, k, most)
-}
-
-fn fill_paced(n: u32, k: Task) -> bool
-    requires { Steady n k }
-    ensures { result ≡ pace_at n Stage.FillCopy k }
-{
-    let w = k.hand;
-    let most = next_most(n, w.cell);
-    k.steps <= most
-}
-
-fn put_paced(n: u32, k: Task) -> bool
-    requires { Steady n k }
-    ensures { result ≡ pace_at n Stage.Put k }
-{
-    let most = copy_most(n, n);
-    k.steps <= most
-}
-
-fn page_paced(n: u32, r: Reading, k: Task) -> bool
-    requires { Steady n k }
-    ensures { result ≡ pace_at n (Stage.Paging r) k }
-{
-    let w = k.hand;
-    if w.cell < k.cell {
-        return false;
-    }
-    let most = page_most(n, k.cell, w.cell);
-    ends_within(n, r, k, most)
-}
-
-fn pace_at(n: u32, g: Stage, k: Task) -> bool
-    requires { Steady n k }
-    ensures { result ≡ pace_at n g k }
-{
-    match g {
-        Stage::Idle => bare_task(k),
-        Stage::TakeNew => k.steps == 0,
-        Stage::FillNew => new_paced(n, k),
-        Stage::Getting(r) => get_paced(n, r, k),
-        Stage::Exchange => k.steps == 0,
-        Stage::Read => k.steps == 1,
-        Stage::Append => k.steps == 2,
-        Stage::Write => k.steps == 3,
-        Stage::TakeCopy => k.steps == 1,
-        Stage::Copying(r) => copy_paced(n, r, k),
-        Stage::FillCopy => fill_paced(n, k),
-        Stage::Put => put_paced(n, k),
-        Stage::Paging(r) => page_paced(n, r, k),
-    }
+    (to - from + 1) * get_most(cells)
 }
 
 // ---- every task
 
-// A row that can be read has its code and is in its ranges; a row in its ranges and at its pace can be read.
-fn task_sound(words: &[u32], d: Sizes, t: u32) -> bool
-    requires { Spans d words.now × (t < d.t) }
-    ensures { result ≡ task_sound d words.now t }
+// The steps are those of the stage, of a task in its ranges.
+#[tactic(auto, unfolding(crate::specs::Paces::pace_at), using(crate::specs::Paces::paces))]
+fn pace_at(sizes: Sizes, task: Task) -> bool
+    requires { (sizes.n ≤ most_cells) × Ranged sizes task }
+    ensures { result ≡ pace_at sizes.n task.stage task }
 {
-    let TaskRow::Row(k) = pool::load_task(words, d, t) else {
-        return false;
-    };
-    let g = k.stage;
-    pace_at(d.n, g, k)
+    let cells = sizes.n;
+    let cell = task.hand.cell;
+    match task.stage {
+        Stage::Idle => task == Task::idle(),
+        Stage::TakeNew | Stage::Exchange => task.steps == 0,
+        Stage::Read | Stage::TakeCopy => task.steps == 1,
+        Stage::Append => task.steps == 2,
+        Stage::Write => task.steps == 3,
+        Stage::FillNew => task.steps == cell + 1,
+        Stage::Getting(reading) => ends_within(cells, reading, task, get_most(cells)),
+        Stage::Copying(reading) => ends_within(cells, reading, task, next_most(cells, cell)),
+        Stage::FillCopy => task.steps <= next_most(cells, cell),
+        Stage::Put => task.steps <= copy_most(cells, cells),
+        Stage::Paging(reading) => {
+            task.cell <= cell
+                && ends_within(cells, reading, task, page_most(cells, task.cell, cell))
+        }
+    }
 }
 
-pub fn tasks_sound(words: &[u32], d: Sizes) -> bool
-    requires { Spans d words.now }
-    ensures { result ≡ all_to (task_sound d words.now) d.t }
+// A row that can be read has its code and is in its ranges; a row in its ranges and at its pace can be read.
+#[tactic(auto, using(crate::specs::Paces::rows))]
+fn task_sound(pool: Pool<'_>, index: u32) -> bool
+    requires { index < pool.sizes.t }
+    ensures { result ≡ task_sound pool.entry.sizes pool.entry.words.now index }
 {
-    let mut t = 0;
-    while t < d.t {
-        if !task_sound(words, d, t) {
-            return false;
-        }
-        t += 1;
+    match pool.ranged_task(index) {
+        Ok(task) => pace_at(pool.sizes, task),
+        Err(_) => false,
     }
-    true
+}
+
+pub fn tasks_sound(pool: Pool<'_>) -> bool
+    ensures { result ≡ all_to (task_sound pool.entry.sizes pool.entry.words.now) pool.entry.sizes.t }
+{
+    all_below(pool.sizes.t, move |index| task_sound(pool, index))
 }

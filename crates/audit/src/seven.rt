@@ -1,6 +1,5 @@
 // Rule 7: its parts in their order.
 ghost use Rattle.std.specs.Prelude.{◌≡◌};
-ghost use Rattle.layout.specs.Places.{Spans};
 ghost use Rattle.survey.specs.Rules.{Rule2, Rule3, Rule6};
 ghost use Rattle.survey.specs.Broken.{rule7};
 ghost use Rattle.survey.specs.Stands.{Marked};
@@ -10,27 +9,21 @@ use super::fillers::fillers_laid;
 use super::paces::tasks_sound;
 use super::slots::{blocks_laid, slots_sound};
 use super::writers::writers_hold;
-use rulebook::Sizes;
+use pool::Pool;
 
 // Where rules 2, 3 and 6 hold.
-pub fn rule_seven(words: &[u32], d: Sizes, stood: &[u32]) -> bool
-    requires { Spans d words.now × Rule2 d words.now × Rule3 d words.now × Rule6 d words.now × Marked d words.now stood.now }
-    ensures { result ≡ rule7 d words.now }
+#[tactic(auto, unfolding(survey::specs::Broken::rule7))]
+pub fn rule_seven(pool: Pool<'_>, stood: &[u32]) -> bool
+    requires two { Rule2 pool.sizes pool.words.now }
+    requires three { Rule3 pool.sizes pool.words.now }
+    requires six { Rule6 pool.sizes pool.words.now }
+    requires marks { Marked pool.sizes pool.words.now stood.now }
+    ensures { result ≡ rule7 pool.entry.sizes pool.entry.words.now }
 {
-    if !slots_sound(words, d) {
-        return false;
-    }
-    if !tasks_sound(words, d) {
-        return false;
-    }
-    if !writers_hold(words, d) {
-        return false;
-    }
-    if !tasks_done(words, d) {
-        return false;
-    }
-    if !blocks_laid(words, d, stood) {
-        return false;
-    }
-    fillers_laid(words, d)
+    slots_sound(pool)
+        && tasks_sound(pool)
+        && writers_hold(pool)
+        && tasks_done(pool)
+        && blocks_laid(pool, stood)
+        && fillers_laid(pool)
 }

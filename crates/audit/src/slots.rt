@@ -1,81 +1,57 @@
 // Rule 7: the codes and ranges of slots, and the words of blocks on which live handles stand.
 ghost use Rattle.std.specs.Prelude.{◌≡◌, ◌<◌};
 ghost use Rattle.theorems.specs.Terms.{all_to};
-ghost use Rattle.layout.specs.Places.{Spans};
 ghost use Rattle.survey.specs.Rules.{Rule2};
 ghost use Rattle.survey.specs.Broken.{slot_sound, laid_at};
 ghost use Rattle.survey.specs.Holds.{slot_holds};
 ghost use Rattle.survey.specs.Stands.{Marked};
 
-use acts::SlotRow;
-use acts::tasks::is_live;
-use rulebook::{Sizes, Slot};
+use pool::Pool;
+use rulebook::{LAST_SERIAL, Slot};
+use survey::all_below;
 use survey::stands::stood_on;
 
-const LAST_SERIAL: u32 = 16777215;
-
 // Only a live slot has a block and a number, and it has carried a handle.
-fn slot_holds(x: Slot) -> bool
-    ensures { result ≡ slot_holds x }
+#[tactic(auto, unfolding(survey::specs::Holds::slot_holds, rulebook::specs::Sizes::last_serial))]
+fn slot_holds(slot: Slot) -> bool
+    ensures { result ≡ slot_holds slot }
 {
-    if LAST_SERIAL < x.serial {
-        return false;
+    if slot.is_live() {
+        1 <= slot.serial && slot.serial <= LAST_SERIAL
+    } else {
+        slot.serial <= LAST_SERIAL && slot.block == 0 && slot.number == 0
     }
-    let s = x.status;
-    if is_live(s) {
-        return 1 <= x.serial;
-    }
-    if x.block != 0 {
-        return false;
-    }
-    x.number == 0
 }
 
-fn slot_sound(words: &[u32], d: Sizes, j: u32) -> bool
-    requires { Spans d words.now × Rule2 d words.now × (j < d.h) }
-    ensures { result ≡ slot_sound d words.now j }
+#[tactic(auto, using(crate::specs::Seven::slots))]
+fn slot_sound(pool: Pool<'_>, slot: u32) -> bool
+    requires two { Rule2 pool.sizes pool.words.now }
+    requires there { slot < pool.sizes.h }
+    ensures { result ≡ slot_sound pool.entry.sizes pool.entry.words.now slot }
 {
-    match pool::load_slot(words, d, j) {
-        SlotRow::Bad => false,
-        SlotRow::Row(x) => slot_holds(x),
-    }
+    pool.ranged_slot(slot).is_ok_and(slot_holds)
 }
 
 // Where rule 2 holds.
-pub fn slots_sound(words: &[u32], d: Sizes) -> bool
-    requires { Spans d words.now × Rule2 d words.now }
-    ensures { result ≡ all_to (slot_sound d words.now) d.h }
+pub fn slots_sound(pool: Pool<'_>) -> bool
+    requires { Rule2 pool.sizes pool.words.now }
+    ensures { result ≡ all_to (slot_sound pool.entry.sizes pool.entry.words.now) pool.entry.sizes.h }
 {
-    let mut j = 0;
-    while j < d.h {
-        if !slot_sound(words, d, j) {
-            return false;
-        }
-        j += 1;
-    }
-    true
+    all_below(pool.sizes.h, move |slot| slot_sound(pool, slot))
 }
 
-fn laid_at(words: &[u32], d: Sizes, stood: &[u32], k: u32) -> bool
-    requires { Spans d words.now × Marked d words.now stood.now × (k < d.b) }
-    ensures { result ≡ laid_at d words.now k }
+#[tactic(auto, unfolding(survey::specs::Broken::laid_at), using(survey::specs::Stands::told, crate::specs::Seven::laids))]
+fn laid_at(pool: Pool<'_>, stood: &[u32], block: u32) -> bool
+    requires marks { Marked pool.sizes pool.words.now stood.now }
+    requires there { block < pool.sizes.b }
+    ensures { result ≡ laid_at pool.entry.sizes pool.entry.words.now block }
 {
-    if !stood_on(stood, k) {
-        return true;
-    }
-    pool::laid(words, d, k)
+    !stood_on(stood, block) || pool.laid(block)
 }
 
-pub fn blocks_laid(words: &[u32], d: Sizes, stood: &[u32]) -> bool
-    requires { Spans d words.now × Marked d words.now stood.now }
-    ensures { result ≡ all_to (laid_at d words.now) d.b }
+pub fn blocks_laid(pool: Pool<'_>, stood: &[u32]) -> bool
+    requires { Marked pool.sizes pool.words.now stood.now }
+    ensures { result ≡ all_to (laid_at pool.entry.sizes pool.entry.words.now) pool.entry.sizes.b }
 {
-    let mut k = 0;
-    while k < d.b {
-        if !laid_at(words, d, stood, k) {
-            return false;
-        }
-        k += 1;
-    }
-    true
+    all_below(pool.sizes.b, move |block| laid_at(pool, stood, block))
 }

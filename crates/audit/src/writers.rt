@@ -1,124 +1,65 @@
 // Rule 7: sets in place, past their exchange.
 ghost use Rattle.std.specs.Prelude.{◌≡◌, ◌<◌};
-ghost use Rattle.rulebook.specs.State.{writes};
 ghost use Rattle.theorems.specs.Terms.{all_to};
 ghost use Rattle.rules.specs.Paced.{Paced};
-ghost use Rattle.layout.specs.Places.{Spans};
 ghost use Rattle.survey.specs.Rules.{shown};
 ghost use Rattle.survey.specs.Broken.{writer_apart, not_above, writer_at};
 
-use acts::tasks::is_live;
-use rulebook::{Sizes, Stage, Task};
+use pool::Pool;
+use rulebook::Task;
+use survey::all_below;
 
-// The task is a set in place, past its exchange.
-fn writes_in_place(g: Stage) -> bool
-    ensures { result ≡ writes g }
+#[tactic(auto, unfolding(survey::specs::Broken::writer_apart), using(survey::specs::Ways::task_as))]
+fn writer_apart(pool: Pool<'_>, writer: Task, index: u32, other_index: u32) -> bool
+    requires { other_index < pool.sizes.t }
+    ensures { result ≡ writer_apart pool.entry.sizes pool.entry.words.now writer index other_index }
 {
-    match g {
-        Stage::Idle => false,
-        Stage::TakeNew => false,
-        Stage::FillNew => false,
-        Stage::Getting(_) => false,
-        Stage::Exchange => false,
-        Stage::Read => true,
-        Stage::Append => true,
-        Stage::Write => true,
-        Stage::TakeCopy => false,
-        Stage::Copying(_) => false,
-        Stage::FillCopy => false,
-        Stage::Put => false,
-        Stage::Paging(_) => false,
-    }
+    let other = pool.raw_task(other_index);
+    !other.stage.writes_in_place() || writer.block != other.block || index == other_index
 }
 
-fn writer_apart(words: &[u32], d: Sizes, k: Task, t: u32, u: u32) -> bool
-    requires { Spans d words.now × (u < d.t) }
-    ensures { result ≡ writer_apart d words.now k t u }
+fn writer_alone(pool: Pool<'_>, writer: Task, index: u32) -> bool
+    ensures { result ≡ all_to (writer_apart pool.entry.sizes pool.entry.words.now writer index) pool.entry.sizes.t }
 {
-    let y = pool::task_at(words, d, u);
-    let g = y.stage;
-    if !writes_in_place(g) {
-        return true;
-    }
-    if k.block != y.block {
-        return true;
-    }
-    t == u
+    all_below(pool.sizes.t, move |other_index| {
+        writer_apart(pool, writer, index, other_index)
+    })
 }
 
-fn writer_alone(words: &[u32], d: Sizes, k: Task, t: u32) -> bool
-    requires { Spans d words.now }
-    ensures { result ≡ all_to (writer_apart d words.now k t) d.t }
+#[tactic(auto, unfolding(survey::specs::Broken::not_above), using(survey::specs::Ways::slot_as))]
+fn not_above(pool: Pool<'_>, writer: Task, slot: u32) -> bool
+    requires { slot < pool.sizes.h }
+    ensures { result ≡ not_above pool.entry.sizes pool.entry.words.now writer slot }
 {
-    let mut u = 0;
-    while u < d.t {
-        if !writer_apart(words, d, k, t, u) {
-            return false;
-        }
-        u += 1;
-    }
-    true
+    let handle = pool.raw_slot(slot);
+    !handle.is_live() || handle.block != writer.block || handle.number <= writer.number
 }
 
-fn not_above(words: &[u32], d: Sizes, k: Task, j: u32) -> bool
-    requires { Spans d words.now × (j < d.h) }
-    ensures { result ≡ not_above d words.now k j }
+fn none_above(pool: Pool<'_>, writer: Task) -> bool
+    ensures { result ≡ all_to (not_above pool.entry.sizes pool.entry.words.now writer) pool.entry.sizes.h }
 {
-    let x = pool::slot_at(words, d, j);
-    let s = x.status;
-    if !is_live(s) {
-        return true;
-    }
-    if x.block != k.block {
-        return true;
-    }
-    x.number <= k.number
+    all_below(pool.sizes.h, move |slot| not_above(pool, writer, slot))
 }
 
-fn none_above(words: &[u32], d: Sizes, k: Task) -> bool
-    requires { Spans d words.now }
-    ensures { result ≡ all_to (not_above d words.now k) d.h }
+#[tactic(auto, unfolding(survey::specs::Broken::writer_at), using(crate::specs::Seven::writers))]
+fn writer_at(pool: Pool<'_>, index: u32) -> bool
+    requires paced { Paced (shown pool.sizes pool.words.now) }
+    requires there { index < pool.sizes.t }
+    ensures { result ≡ writer_at pool.entry.sizes pool.entry.words.now index }
 {
-    let mut j = 0;
-    while j < d.h {
-        if !not_above(words, d, k, j) {
-            return false;
-        }
-        j += 1;
-    }
-    true
-}
-
-fn writer_at(words: &[u32], d: Sizes, t: u32) -> bool
-    requires { Spans d words.now × Paced (shown d words.now) × (t < d.t) }
-    ensures { result ≡ writer_at d words.now t }
-{
-    let k = pool::task_at(words, d, t);
-    let g = k.stage;
-    if !writes_in_place(g) {
+    let task = pool.raw_task(index);
+    if !task.stage.writes_in_place() {
         return true;
     }
-    let v = pool::raw_version(words, d, k.block);
-    if v != k.number + 1 {
-        return false;
-    }
-    if !writer_alone(words, d, k, t) {
-        return false;
-    }
-    none_above(words, d, k)
+    pool.raw_version(task.block) == task.number + 1
+        && writer_alone(pool, task, index)
+        && none_above(pool, task)
 }
 
 // Where every row is in its ranges.
-pub fn writers_hold(words: &[u32], d: Sizes) -> bool
-    requires { Spans d words.now × Paced (shown d words.now) }
-    ensures { result ≡ all_to (writer_at d words.now) d.t }
+pub fn writers_hold(pool: Pool<'_>) -> bool
+    requires { Paced (shown pool.sizes pool.words.now) }
+    ensures { result ≡ all_to (writer_at pool.entry.sizes pool.entry.words.now) pool.entry.sizes.t }
 {
-    let mut t = 0;
-    while t < d.t {
-        if !writer_at(words, d, t) {
-            return false;
-        }
-        t += 1;
-    }
-    true
+    all_below(pool.sizes.t, move |index| writer_at(pool, index))
 }

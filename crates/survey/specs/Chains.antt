@@ -1,11 +1,11 @@
 -- The live handles of each block, chained in one pass over the slots: from the last slot on the block to the first.
 -- Rests on Reads, Ways and Decided.
-use Rattle.std.specs.Prelude.{◌+◌, ◌<◌, ◌≤◌, suc, zero, ℕ, Bool, ◌&&◌, false, not, true, List, ◌≡◌, refl, get_or, length, replicate, set, if◌then◌else◌}
+use Rattle.std.specs.Prelude.{◌+◌, ◌<◌, ◌≤◌, suc, zero, ℕ, Bool, ◌&&◌, false, true, List, ◌≡◌, refl, get_or, length, replicate, set, if◌then◌else◌}
 use Rattle.std.proofs.Common.{true≢false, ◌∙◌, sym, not-suc-le-zero, add-one, arith, length-set, get_or-set_other, get_or-set_same}
 use Rattle.std.proofs.Math.Path.{ap, subst}
 use Rattle.std.proofs.Math.Dec.{eqb}
 use Rattle.std.proofs.lemmas.List.{get_or-replicate, length-replicate}
-use borrow.Author.Tests.{eq-eqb, eqb-false, eqb-true, not-false, not-true}
+use borrow.Author.Tests.{eq-eqb, eqb-false, eqb-true}
 use Rattle.rulebook.specs.declared.Sizes.{Sizes}
 use Rattle.rulebook.specs.declared.Slot.{Slot}
 use Rattle.rulebook.specs.declared.Status.{Status}
@@ -112,7 +112,7 @@ module _ (d : Sizes) (p : List ℕ) where
       }
 
   module _ (j : ℕ) (first next : List ℕ) (s : ChainedTo j first next) (x : Slot) (e : x ≡ slot_read (slot_part p j)) (l : j < d.h) (b : Bool) (f : b ≡ is_live x.status) where
-    pub chain_idle : not b ≡ true → ChainedTo (j + 1) first next
+    pub chain_idle : b ≡ false → ChainedTo (j + 1) first next
     chain_idle q =
         record {
           first_sized = s.first_sized;
@@ -125,11 +125,11 @@ module _ (d : Sizes) (p : List ℕ) where
         }
       where
         off : (k : ℕ) → stands_on d p k j ≡ false
-        off k = sym (stands_not d p k j x e l b f (not-true b q))
+        off k = sym (stands_not d p k j x e l b f q)
 
-    module _ (q : not b ≡ false) where
+    module _ (q : b ≡ true) where
       on : (k : ℕ) → eqb x.block k ≡ stands_on d p k j
-      on k = stands_live d p k j x e l b f (not-false b q)
+      on k = stands_live d p k j x e l b f q
 
       module _ (sp : Spans d p) where
         chain_row : j < length next

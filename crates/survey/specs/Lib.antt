@@ -11,6 +11,7 @@ pub mod Stands
 pub mod Logs
 pub mod Walk
 pub mod Ways
+pub mod Held
 pub mod Tally
 pub mod Chains
 pub mod Apart

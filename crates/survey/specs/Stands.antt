@@ -1,13 +1,13 @@
 -- The blocks on which live handles stand, marked in one pass over the slots: 0 where one stands.
 -- Rests on Reads.
-use Rattle.std.specs.Prelude.{◌+◌, ◌<◌, ◌≤◌, ℕ, Bool, ◌||◌, false, not, true, List, ◌≡◌, refl, get_or, length, replicate, set}
+use Rattle.std.specs.Prelude.{◌+◌, ◌<◌, ◌≤◌, ℕ, Bool, ◌||◌, false, true, List, ◌≡◌, refl, get_or, length, replicate, set}
 use Rattle.std.proofs.Math.Bool.{or-false, or-true}
 use Rattle.std.proofs.Common.{◌∙◌, sym, add-one, arith, length-set, get_or-set_other, get_or-set_same, eqb-true, ne_eqb}
 use Rattle.std.proofs.Math.Path.{ap}
 use Rattle.std.proofs.Math.Dec.{eqb}
 use Rattle.std.proofs.lemmas.List.{get_or-replicate}
 use Rattle.std.proofs.Math.ListN.{length-replicate}
-use Rattle.std.proofs.lemmas.Bool.{eqb-false, not-false, not-true}
+use Rattle.std.proofs.lemmas.Bool.{eqb-false}
 use Rattle.rulebook.specs.declared.Sizes.{Sizes}
 use Rattle.rulebook.specs.declared.Slot.{Slot}
 use Rattle.layout.specs.Places.{Spans, slot_part}
@@ -51,12 +51,12 @@ module _ (d : Sizes) (p : List ℕ) where
       met = λ k o. s.met k o ∙ sym (or-false (some_to (stands_on d p k) j)) ∙ ap (λ (y : Bool). some_to (stands_on d p k) j || y) (sym (h k o)) ∙ sym (next j k);
     }
 
-    pub mark-idle : not b ≡ true → MarkedTo (j + 1) m
-    mark-idle q = same (λ k _. sym (stands_not d p k j x e l b f (not-true b q)))
+    pub mark-idle : b ≡ false → MarkedTo (j + 1) m
+    mark-idle q = same (λ k _. sym (stands_not d p k j x e l b f q))
 
-    module _ (q : not b ≡ false) where
+    module _ (q : b ≡ true) where
       on : (k : ℕ) → eqb x.block k ≡ stands_on d p k j
-      on k = stands_live d p k j x e l b f (not-false b q)
+      on k = stands_live d p k j x e l b f q
 
       pub mark-outside : most_blocks ≤ x.block → MarkedTo (j + 1) m
       mark-outside o = same (λ k i. sym (on k) ∙ ne_eqb x.block k (λ z. omega arith))

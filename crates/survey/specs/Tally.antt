@@ -97,11 +97,11 @@ module _ (d : Sizes) (p : List ℕ) where
 
     module _ (q : not b ≡ false) (total : ℕ) (f : total ≡ entries (block_at (shown d p) k).logs) (l : k < d.b)
         (v : ℕ) (g : v ≡ version_of (block_part p d k)) where
-      pub four-version : v < total → false ≡ rule4_at d p k
+      pub four-version : v < total → leb total v ≡ rule4_at d p k
       unfolding rule4_at
       four-version o =
           let z = min-le_left v d.n in
-          rw (← e, not-false b q, ← f, version-here d p k l v g, lt-leb total (min v d.n) (omega arith))
+          rw (← e, not-false b q, ← f, version-here d p k l v g, lt-leb total v o, lt-leb total (min v d.n) (omega arith))
 
       pub four-last : total ≤ v → leb total d.n ≡ rule4_at d p k
       unfolding rule4_at

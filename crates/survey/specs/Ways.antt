@@ -86,6 +86,8 @@ module _ (d : Sizes) (p : List ℕ) where
           unfolding rule2_at
           two-last m = rw (slot_as j x e l, ← f, not-false b q, lt-ltb x.block d.b o, version-here x.block o v g, le-leb x.number v i, le-leb x.number d.n m)
 
+pub ruleset versions = (version-here)
+
 pub ruleset handles = (two-dead, two_far, two-low, two-high, two-last)
 
 -- ---- rule 6

@@ -1,45 +1,31 @@
 // Rule 2: the live handles.
 ghost use Rattle.std.specs.Prelude.{◌≡◌, ◌<◌};
-ghost use Rattle.layout.specs.Places.{Spans};
 ghost use Rattle.survey.specs.Broken.{rule2_at, rule2};
 
-use acts::tasks::is_live;
-use rulebook::Sizes;
+use super::all_below;
+use pool::Pool;
 
-// The handle in slot j, if it is live, stands on a block of the pool, within that block's versions.
-fn stands_well(words: &[u32], d: Sizes, j: u32) -> bool
-    requires { Spans d words.now × (j < d.h) }
-    ensures { result ≡ rule2_at d words.now j }
+// The handle in the slot, if it is live, stands on a block of the pool, within that block's versions.
+#[tactic(auto, unfolding(crate::specs::Broken::rule2_at), using(layout::specs::View::view_slot_at, crate::specs::Ways::versions))]
+fn stands_well(pool: Pool<'_>, slot: u32) -> bool
+    requires { slot < pool.sizes.h }
+    ensures { result ≡ rule2_at pool.entry.sizes pool.entry.words.now slot }
 {
-    let x = pool::slot_at(words, d, j);
-    let s = x.status;
-    if !is_live(s) {
+    let handle = pool.raw_slot(slot);
+    if !handle.is_live() {
         return true;
     }
-    if d.b <= x.block {
+    if pool.sizes.b <= handle.block {
         return false;
     }
-    let v = pool::raw_version(words, d, x.block);
-    if v < x.number {
-        return false;
-    }
-    if d.n < x.number {
-        return false;
-    }
-    v <= d.n + 1
+    let version = pool.raw_version(handle.block);
+    handle.number <= version && handle.number <= pool.sizes.n && version <= pool.sizes.n + 1
 }
 
-// Rule 2.
-pub fn all_stand(words: &[u32], d: Sizes) -> bool
-    requires { Spans d words.now }
-    ensures { result ≡ rule2 d words.now }
+/// Rule 2.
+#[tactic(auto, unfolding(crate::specs::Broken::rule2))]
+pub fn all_stand(pool: Pool<'_>) -> bool
+    ensures { result ≡ rule2 pool.entry.sizes pool.entry.words.now }
 {
-    let mut j = 0;
-    while j < d.h {
-        if !stands_well(words, d, j) {
-            return false;
-        }
-        j += 1;
-    }
-    true
+    all_below(pool.sizes.h, move |slot| stands_well(pool, slot))
 }

@@ -1,294 +1,143 @@
 // Rule 6: what the tasks hold. Handles that they name, slots that they have reserved, blocks that they fill.
-ghost use Rattle.std.specs.Prelude.{◌≡◌, ◌<◌};
-ghost use Rattle.rulebook.specs.State.{reserves};
+ghost use Rattle.std.specs.Prelude.{◌≡◌, ◌<◌, ℕ, Option};
 ghost use Rattle.theorems.specs.Terms.{all_to};
-ghost use Rattle.layout.specs.Places.{Spans};
-ghost use Rattle.survey.specs.Decide.{some_to};
-ghost use Rattle.survey.specs.Broken.{named_at, fresh_apart, fresh_at, target_apart, off_target, target_at, rule6_at, owns_at, owner_at, rule6};
-ghost use Rattle.survey.specs.Holds.{is_reserved, stands_as};
+ghost use Rattle.survey.specs.Broken.{named_at, fresh_at, off_target, target_at, rule6_at, owns_at, owner_at, rule6};
+ghost use Rattle.survey.specs.Holds.{stands_as};
+ghost use Rattle.survey.specs.Held.{reserved_by, filled_by, alone_at};
 
-use acts::tasks::{fills_block, is_live, names_handle};
-use rulebook::{Sizes, Slot, Stage, Status, Task};
+use super::{all_below, any_below};
+use pool::Pool;
+use rulebook::{Slot, Task};
 
-pub fn is_reserved(x: Status) -> bool
-    ensures { result ≡ is_reserved x }
+// The handle in the slot is live where the task found it.
+#[tactic(auto, unfolding(crate::specs::Holds::stands_as))]
+fn stands_as(task: Task, slot: Slot) -> bool
+    ensures { result ≡ stands_as task slot }
 {
-    match x {
-        Status::Free => false,
-        Status::Reserved => true,
-        Status::Live => false,
-    }
+    slot.is_live() && slot.block == task.block && slot.number == task.number
 }
 
-// The task has reserved a slot.
-pub fn reserves_slot(g: Stage) -> bool
-    ensures { result ≡ reserves g }
+// The handle that the task names is live.
+#[tactic(auto, unfolding(crate::specs::Broken::named_at), using(layout::specs::View::view_slot_at, layout::specs::View::view_task_at))]
+fn names_live(pool: Pool<'_>, task: u32) -> bool
+    requires { task < pool.sizes.t }
+    ensures { result ≡ named_at pool.entry.sizes pool.entry.words.now task }
 {
-    match g {
-        Stage::Idle => false,
-        Stage::TakeNew => true,
-        Stage::FillNew => true,
-        Stage::Getting(_) => false,
-        Stage::Exchange => true,
-        Stage::Read => true,
-        Stage::Append => true,
-        Stage::Write => true,
-        Stage::TakeCopy => true,
-        Stage::Copying(_) => true,
-        Stage::FillCopy => true,
-        Stage::Put => true,
-        Stage::Paging(_) => false,
-    }
-}
-
-// ---- the handle that a task names
-
-// The handle in x is live where task k found it.
-fn stands_as(k: Task, x: Slot) -> bool
-    ensures { result ≡ stands_as k x }
-{
-    let s = x.status;
-    if !is_live(s) {
-        return false;
-    }
-    if x.block != k.block {
-        return false;
-    }
-    x.number == k.number
-}
-
-fn names_live(words: &[u32], d: Sizes, t: u32) -> bool
-    requires { Spans d words.now × (t < d.t) }
-    ensures { result ≡ named_at d words.now t }
-{
-    let k = pool::task_at(words, d, t);
-    let g = k.stage;
-    if !names_handle(g) {
+    let busy = pool.raw_task(task);
+    if !busy.stage.names_handle() {
         return true;
     }
-    if d.h <= k.slot {
-        return false;
-    }
-    let x = pool::slot_at(words, d, k.slot);
-    stands_as(k, x)
+    busy.slot < pool.sizes.h && stands_as(busy, pool.raw_slot(busy.slot))
 }
 
-// ---- the slot that a task has reserved
-
-// Task k, which is task t, and task u have not reserved one slot.
-fn fresh_apart(words: &[u32], d: Sizes, k: Task, t: u32, u: u32) -> bool
-    requires { Spans d words.now × (u < d.t) }
-    ensures { result ≡ fresh_apart d words.now k t u }
+// The slot that the task has reserved.
+#[tactic(auto, unfolding(crate::specs::Held::reserved_by))]
+fn reserved_by(task: Task) -> Option<u32>
+    ensures { result ≡ reserved_by task }
 {
-    let y = pool::task_at(words, d, u);
-    let g = y.stage;
-    if !reserves_slot(g) {
-        return true;
-    }
-    if k.fresh != y.fresh {
-        return true;
-    }
-    t == u
-}
-
-fn fresh_alone(words: &[u32], d: Sizes, k: Task, t: u32) -> bool
-    requires { Spans d words.now }
-    ensures { result ≡ all_to (fresh_apart d words.now k t) d.t }
-{
-    let mut u = 0;
-    while u < d.t {
-        if !fresh_apart(words, d, k, t, u) {
-            return false;
-        }
-        u += 1;
-    }
-    true
-}
-
-fn fresh_at(words: &[u32], d: Sizes, t: u32) -> bool
-    requires { Spans d words.now × (t < d.t) }
-    ensures { result ≡ fresh_at d words.now t }
-{
-    let k = pool::task_at(words, d, t);
-    let g = k.stage;
-    if !reserves_slot(g) {
-        return true;
-    }
-    if d.h <= k.fresh {
-        return false;
-    }
-    let x = pool::slot_at(words, d, k.fresh);
-    let s = x.status;
-    if !is_reserved(s) {
-        return false;
-    }
-    fresh_alone(words, d, k, t)
-}
-
-// ---- the block that a task fills
-
-fn target_apart(words: &[u32], d: Sizes, k: Task, t: u32, u: u32) -> bool
-    requires { Spans d words.now × (u < d.t) }
-    ensures { result ≡ target_apart d words.now k t u }
-{
-    let y = pool::task_at(words, d, u);
-    let g = y.stage;
-    if !fills_block(g) {
-        return true;
-    }
-    if k.target != y.target {
-        return true;
-    }
-    t == u
-}
-
-fn target_alone(words: &[u32], d: Sizes, k: Task, t: u32) -> bool
-    requires { Spans d words.now }
-    ensures { result ≡ all_to (target_apart d words.now k t) d.t }
-{
-    let mut u = 0;
-    while u < d.t {
-        if !target_apart(words, d, k, t, u) {
-            return false;
-        }
-        u += 1;
-    }
-    true
-}
-
-fn off_target(words: &[u32], d: Sizes, k: Task, j: u32) -> bool
-    requires { Spans d words.now × (j < d.h) }
-    ensures { result ≡ off_target d words.now k j }
-{
-    let x = pool::slot_at(words, d, j);
-    let s = x.status;
-    if !is_live(s) {
-        return true;
-    }
-    if x.block == k.target {
-        return false;
-    }
-    true
-}
-
-fn target_clear(words: &[u32], d: Sizes, k: Task) -> bool
-    requires { Spans d words.now }
-    ensures { result ≡ all_to (off_target d words.now k) d.h }
-{
-    let mut j = 0;
-    while j < d.h {
-        if !off_target(words, d, k, j) {
-            return false;
-        }
-        j += 1;
-    }
-    true
-}
-
-fn target_at(words: &[u32], d: Sizes, t: u32) -> bool
-    requires { Spans d words.now × (t < d.t) }
-    ensures { result ≡ target_at d words.now t }
-{
-    let k = pool::task_at(words, d, t);
-    let g = k.stage;
-    if !fills_block(g) {
-        return true;
-    }
-    if !target_alone(words, d, k, t) {
-        return false;
-    }
-    target_clear(words, d, k)
-}
-
-// ---- all of it
-
-fn holds_well(words: &[u32], d: Sizes, t: u32) -> bool
-    requires { Spans d words.now × (t < d.t) }
-    ensures { result ≡ rule6_at d words.now t }
-{
-    if !names_live(words, d, t) {
-        return false;
-    }
-    if !fresh_at(words, d, t) {
-        return false;
-    }
-    target_at(words, d, t)
-}
-
-fn tasks_hold_well(words: &[u32], d: Sizes) -> bool
-    requires { Spans d words.now }
-    ensures { result ≡ all_to (rule6_at d words.now) d.t }
-{
-    let mut t = 0;
-    while t < d.t {
-        if !holds_well(words, d, t) {
-            return false;
-        }
-        t += 1;
-    }
-    true
-}
-
-fn owns(words: &[u32], d: Sizes, j: u32, t: u32) -> bool
-    requires { Spans d words.now × (t < d.t) }
-    ensures { result ≡ owns_at d words.now j t }
-{
-    let k = pool::task_at(words, d, t);
-    let g = k.stage;
-    if reserves_slot(g) {
-        k.fresh == j
+    if task.stage.reserves_slot() {
+        Some(task.fresh)
     } else {
-        false
+        None
     }
 }
 
-fn owned(words: &[u32], d: Sizes, j: u32) -> bool
-    requires { Spans d words.now }
-    ensures { result ≡ some_to (owns_at d words.now j) d.t }
+// The block that the task fills.
+#[tactic(auto, unfolding(crate::specs::Held::filled_by))]
+fn filled_by(task: Task) -> Option<u32>
+    ensures { result ≡ filled_by task }
 {
-    let mut t = 0;
-    while t < d.t {
-        if owns(words, d, j, t) {
-            return true;
-        }
-        t += 1;
+    if task.stage.fills_block() {
+        Some(task.target)
+    } else {
+        None
     }
-    false
 }
 
-fn owner_at(words: &[u32], d: Sizes, j: u32) -> bool
-    requires { Spans d words.now × (j < d.h) }
-    ensures { result ≡ owner_at d words.now j }
+// No task but this one holds the thing.
+#[tactic(auto, using(crate::specs::Ways::loops))]
+fn alone<F: Fn(Task) -> Option<u32>>(pool: Pool<'_>, task: u32, thing: u32, holds: F) -> bool
+    ghost held: { Task → Option ℕ }
+    requires may { (other : Task) → F.pre holds other }
+    requires gives { (other : Task) (found : Option ℕ) → F.post holds other found → found ≡ held other }
+    ensures { result ≡ all_to (alone_at pool.entry.sizes pool.entry.words.now held task thing) pool.entry.sizes.t }
 {
-    let x = pool::slot_at(words, d, j);
-    let s = x.status;
-    if !is_reserved(s) {
-        return true;
-    }
-    owned(words, d, j)
-}
-
-fn slots_owned(words: &[u32], d: Sizes) -> bool
-    requires { Spans d words.now }
-    ensures { result ≡ all_to (owner_at d words.now) d.h }
-{
-    let mut j = 0;
-    while j < d.h {
-        if !owner_at(words, d, j) {
+    for other in 0..pool.sizes.t {
+        if holds(pool.raw_task(other)) == Some(thing) && other != task {
             return false;
         }
-        j += 1;
     }
     true
 }
 
-// Rule 6.
-pub fn all_held_once(words: &[u32], d: Sizes) -> bool
-    requires { Spans d words.now }
-    ensures { result ≡ rule6 d words.now }
+// The slot that the task has reserved is reserved, and for it alone.
+#[tactic(auto, unfolding(crate::specs::Broken::fresh_at, crate::specs::Held::reserved_by), using(layout::specs::View::view_slot_at, layout::specs::View::view_task_at, crate::specs::Held::alone_fresh))]
+fn fresh_at(pool: Pool<'_>, task: u32) -> bool
+    requires { task < pool.sizes.t }
+    ensures { result ≡ fresh_at pool.entry.sizes pool.entry.words.now task }
 {
-    if !tasks_hold_well(words, d) {
-        return false;
-    }
-    slots_owned(words, d)
+    let Some(slot) = reserved_by(pool.raw_task(task)) else {
+        return true;
+    };
+    slot < pool.sizes.h
+        && pool.raw_slot(slot).is_reserved()
+        && alone(pool, task, slot, |other| reserved_by(other))
+}
+
+#[tactic(auto, unfolding(crate::specs::Broken::off_target), using(layout::specs::View::view_slot_at, layout::specs::View::view_task_at))]
+fn off_target(pool: Pool<'_>, task: Task, slot: u32) -> bool
+    requires { slot < pool.sizes.h }
+    ensures { result ≡ off_target pool.entry.sizes pool.entry.words.now task slot }
+{
+    let handle = pool.raw_slot(slot);
+    !handle.is_live() || handle.block != task.target
+}
+
+// The block that the task fills has no other task and no live handle.
+#[tactic(auto, unfolding(crate::specs::Broken::target_at, crate::specs::Held::filled_by), using(layout::specs::View::view_slot_at, layout::specs::View::view_task_at, crate::specs::Held::alone_target))]
+fn target_at(pool: Pool<'_>, task: u32) -> bool
+    requires { task < pool.sizes.t }
+    ensures { result ≡ target_at pool.entry.sizes pool.entry.words.now task }
+{
+    let busy = pool.raw_task(task);
+    let Some(block) = filled_by(busy) else {
+        return true;
+    };
+    alone(pool, task, block, |other| filled_by(other))
+        && all_below(pool.sizes.h, move |slot| off_target(pool, busy, slot))
+}
+
+#[tactic(auto, unfolding(crate::specs::Broken::rule6_at), using(layout::specs::View::view_slot_at, layout::specs::View::view_task_at))]
+fn holds_well(pool: Pool<'_>, task: u32) -> bool
+    requires { task < pool.sizes.t }
+    ensures { result ≡ rule6_at pool.entry.sizes pool.entry.words.now task }
+{
+    names_live(pool, task) && fresh_at(pool, task) && target_at(pool, task)
+}
+
+#[tactic(auto, unfolding(crate::specs::Broken::owns_at, crate::specs::Held::reserved_by), using(layout::specs::View::view_slot_at, layout::specs::View::view_task_at))]
+fn owns(pool: Pool<'_>, slot: u32, task: u32) -> bool
+    requires { task < pool.sizes.t }
+    ensures { result ≡ owns_at pool.entry.sizes pool.entry.words.now slot task }
+{
+    reserved_by(pool.raw_task(task)) == Some(slot)
+}
+
+// The slot, if it is reserved, belongs to a task.
+#[tactic(auto, unfolding(crate::specs::Broken::owner_at), using(layout::specs::View::view_slot_at, layout::specs::View::view_task_at))]
+fn owner_at(pool: Pool<'_>, slot: u32) -> bool
+    requires { slot < pool.sizes.h }
+    ensures { result ≡ owner_at pool.entry.sizes pool.entry.words.now slot }
+{
+    !pool.raw_slot(slot).is_reserved()
+        || any_below(pool.sizes.t, move |task| owns(pool, slot, task))
+}
+
+/// Rule 6.
+#[tactic(auto, unfolding(crate::specs::Broken::rule6), using(layout::specs::View::view_slot_at, layout::specs::View::view_task_at))]
+pub fn all_held_once(pool: Pool<'_>) -> bool
+    ensures { result ≡ rule6 pool.entry.sizes pool.entry.words.now }
+{
+    all_below(pool.sizes.t, move |task| holds_well(pool, task))
+        && all_below(pool.sizes.h, move |slot| owner_at(pool, slot))
 }

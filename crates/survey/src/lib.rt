@@ -2,8 +2,11 @@
 #![tactic(auto)]
 
 pub mod apart;
+mod below;
 pub mod handles;
 pub mod holds;
 pub mod stands;
 pub mod tally;
 pub mod walk;
+
+pub use below::{all_below, any_below};

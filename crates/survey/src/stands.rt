@@ -1,43 +1,34 @@
 // The blocks on which live handles stand, marked in one pass over the slots: 0 where one stands.
 ghost use Rattle.std.specs.Prelude.{◌≡◌, ◌+◌, ◌<◌, length};
-ghost use Rattle.layout.specs.Places.{Spans};
 ghost use Rattle.survey.specs.Stands.{Marked, MarkedTo, marked};
 
-use acts::tasks::is_live;
-use rulebook::Sizes;
+use pool::Pool;
+use rulebook::MOST_BLOCKS;
 
-const MOST_BLOCKS: u32 = 256;
-
-fn mark_slot(words: &[u32], d: Sizes, j: u32, marks: &mut [u32])
-    requires { Spans d words.now × (j < d.h) × MarkedTo d words.now j marks.old }
-    ensures { MarkedTo d words.now (j + 1) marks.new }
+fn mark_slot(pool: Pool<'_>, slot: u32, marks: &mut [u32])
+    requires { (slot < pool.sizes.h) × MarkedTo pool.sizes pool.words.now slot marks.old }
+    ensures { MarkedTo pool.entry.sizes pool.entry.words.now (slot + 1) marks.new }
 {
-    let x = pool::slot_at(words, d, j);
-    let s = x.status;
-    if !is_live(s) {
-        return;
-    }
-    if MOST_BLOCKS <= x.block {
-        return;
-    }
-    marks[x.block as usize] = 0;
-}
-
-pub fn mark_stood(words: &[u32], d: Sizes, marks: &mut [u32])
-    requires { Spans d words.now × MarkedTo d words.now 0 marks.old }
-    ensures { Marked d words.now marks.new }
-{
-    let mut j = 0;
-    while j < d.h {
-        mark_slot(words, d, j, marks);
-        j += 1;
+    let handle = pool.raw_slot(slot);
+    if handle.is_live() && handle.block < MOST_BLOCKS {
+        marks[handle.block as usize] = 0;
     }
 }
 
-// A live handle stands on block k.
-pub fn stood_on(marks: &[u32], k: u32) -> bool
-    requires { k < length marks.now }
-    ensures { result ≡ marked marks.now k }
+/// Marks each block on which a live handle stands.
+pub fn mark_stood(pool: Pool<'_>, marks: &mut [u32])
+    requires { MarkedTo pool.sizes pool.words.now 0 marks.old }
+    ensures { Marked pool.entry.sizes pool.entry.words.now marks.new }
 {
-    marks[k as usize] == 0
+    for slot in 0..pool.sizes.h {
+        mark_slot(pool, slot, marks);
+    }
+}
+
+/// A live handle stands on the block.
+pub fn stood_on(marks: &[u32], block: u32) -> bool
+    requires { block < length marks.now }
+    ensures { result ≡ marked marks.now block }
+{
+    marks[block as usize] == 0
 }

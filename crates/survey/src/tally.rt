@@ -2,56 +2,45 @@
 ghost use Rattle.std.specs.Prelude.{◌≡◌, ◌<◌};
 ghost use Rattle.rulebook.specs.State.{block_at};
 ghost use Rattle.theorems.specs.Terms.{entries};
-ghost use Rattle.layout.specs.Places.{Spans};
 ghost use Rattle.survey.specs.Rules.{Rule2, Rule3, shown};
 ghost use Rattle.survey.specs.Broken.{rule4_at, rule4};
 ghost use Rattle.survey.specs.Stands.{Marked};
 ghost use Rattle.survey.specs.Tally.{Counts};
 
+use super::all_below;
 use super::stands::stood_on;
-use rulebook::Sizes;
+use pool::Pool;
 
-// The entries of block k's logs together.
-pub fn entries_of(words: &[u32], d: Sizes, k: u32) -> u32
-    requires { Counts d words.now k }
-    ensures { result ≡ entries (block_at (shown d words.now) k).logs }
+/// The entries of the block's logs together.
+pub fn entries_of(pool: Pool<'_>, block: u32) -> u32
+    requires { Counts pool.sizes pool.words.now block }
+    ensures { result ≡ entries (block_at (shown pool.entry.sizes pool.entry.words.now) block).logs }
 {
-    let mut total: u32 = 0;
-    let mut i: u32 = 0;
-    while i < d.n {
-        let m = pool::raw_length(words, d, k, i);
-        total += m;
-        i += 1;
+    let mut total = 0;
+    for cell in 0..pool.sizes.n {
+        total += pool.raw_length(block, cell);
     }
     total
 }
 
-fn few_entries(words: &[u32], d: Sizes, stood: &[u32], k: u32) -> bool
-    requires { Spans d words.now × Rule2 d words.now × Rule3 d words.now × Marked d words.now stood.now × (k < d.b) }
-    ensures { result ≡ rule4_at d words.now k }
+// Where a live handle stands on the block, its entries are at most V and at most N.
+#[tactic(auto, unfolding(crate::specs::Broken::rule4_at))]
+fn few_entries(pool: Pool<'_>, stood: &[u32], block: u32) -> bool
+    requires { Rule2 pool.sizes pool.words.now × Rule3 pool.sizes pool.words.now × Marked pool.sizes pool.words.now stood.now × (block < pool.sizes.b) }
+    ensures { result ≡ rule4_at pool.entry.sizes pool.entry.words.now block }
 {
-    if !stood_on(stood, k) {
+    if !stood_on(stood, block) {
         return true;
     }
-    let total = entries_of(words, d, k);
-    let v = pool::raw_version(words, d, k);
-    if v < total {
-        return false;
-    }
-    total <= d.n
+    let total = entries_of(pool, block);
+    total <= pool.raw_version(block) && total <= pool.sizes.n
 }
 
-// Rule 4, where rules 2 and 3 hold.
-pub fn all_few(words: &[u32], d: Sizes, stood: &[u32]) -> bool
-    requires { Spans d words.now × Rule2 d words.now × Rule3 d words.now × Marked d words.now stood.now }
-    ensures { result ≡ rule4 d words.now }
+/// Rule 4, where rules 2 and 3 hold.
+#[tactic(auto, unfolding(crate::specs::Broken::rule4))]
+pub fn all_few(pool: Pool<'_>, stood: &[u32]) -> bool
+    requires { Rule2 pool.sizes pool.words.now × Rule3 pool.sizes pool.words.now × Marked pool.sizes pool.words.now stood.now }
+    ensures { result ≡ rule4 pool.entry.sizes pool.entry.words.now }
 {
-    let mut k = 0;
-    while k < d.b {
-        if !few_entries(words, d, stood, k) {
-            return false;
-        }
-        k += 1;
-    }
-    true
+    all_below(pool.sizes.b, move |block| few_entries(pool, stood, block))
 }

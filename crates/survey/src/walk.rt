@@ -1,51 +1,43 @@
 // Rule 3: the walk over blocks, cells and log entries.
 ghost use Rattle.std.specs.Prelude.{◌≡◌};
-ghost use Rattle.layout.specs.Places.{Spans};
 ghost use Rattle.survey.specs.Rules.{Rule2};
 ghost use Rattle.survey.specs.Broken.{rule3};
 ghost use Rattle.survey.specs.Stands.{Marked};
 
 use super::stands::stood_on;
-use rulebook::Sizes;
+use pool::Pool;
 
 // A mark for each version that an entry may have: V is at most N + 1. It is 0 once met.
 const VERSIONS: usize = 4097;
 
-// Left at the first entry that breaks the rule.
-pub fn logs_hold(words: &[u32], d: Sizes, stood: &[u32]) -> bool
-    requires { Spans d words.now × Rule2 d words.now × Marked d words.now stood.now }
-    ensures { result ≡ rule3 d words.now }
+/// Rule 3, where rule 2 holds.
+// The walk over blocks, cells and entries is left by a label at the first broken entry: the form is asked for.
+pub fn logs_hold(pool: Pool<'_>, stood: &[u32]) -> bool
+    requires { Rule2 pool.sizes pool.words.now × Marked pool.sizes pool.words.now stood.now }
+    ensures { result ≡ rule3 pool.entry.sizes pool.entry.words.now }
 {
     let mut kept = true;
-    'walk: for k in 0..d.b {
-        if !stood_on(stood, k) {
+    'walk: for block in 0..pool.sizes.b {
+        if !stood_on(stood, block) {
             continue;
         }
-        let v = pool::raw_version(words, d, k);
+        let version = pool.raw_version(block);
         let mut marks = [1u32; VERSIONS];
-        for i in 0..d.n {
-            let m = pool::raw_length(words, d, k, i);
-            if v < m {
+        for cell in 0..pool.sizes.n {
+            let length = pool.raw_length(block, cell);
+            if version < length {
                 kept = false;
                 break 'walk;
             }
-            let mut least: u32 = 0;
-            for j in 0..m {
-                let at = pool::raw_stamp(words, d, k, i, j);
-                if v <= at {
+            let mut least = 0;
+            for index in 0..length {
+                let stamp = pool.raw_stamp(block, cell, index);
+                if version <= stamp || stamp < least || marks[stamp as usize] == 0 {
                     kept = false;
                     break 'walk;
                 }
-                if at < least {
-                    kept = false;
-                    break 'walk;
-                }
-                if marks[at as usize] == 0 {
-                    kept = false;
-                    break 'walk;
-                }
-                marks[at as usize] = 0;
-                least = at + 1;
+                marks[stamp as usize] = 0;
+                least = stamp + 1;
             }
         }
     }

@@ -1,0 +1,10 @@
+use Rattle.std.proofs.Common.{rules}
+use Rattle.survey.specs.Chains.{chain_start}
+use Rattle.survey.specs.Apart.{unmet-start}
+use Rattle.survey.proofs.apart.all_apart.Goals as goal
+
+pub chain_slots-requires : goal.chain_slots-requires
+chain_slots-requires c = search (rules, chain_start)
+
+pub blocks_apart-requires : goal.blocks_apart-requires
+blocks_apart-requires c = search (rules, unmet-start)

@@ -1,0 +1,6 @@
+use Rattle.std.proofs.Common.{rules}
+use Rattle.survey.specs.Tally.{tallies}
+use Rattle.survey.proofs.tally.entries_of.Goals as goal
+
+pub returns : goal.returns
+returns c = search (rules, tallies)
