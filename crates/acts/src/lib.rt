@@ -28,8 +28,8 @@ pub enum Refusal {
     NoCell,
     /// 9: no slot is free.
     NoSlot,
-    /// 10: no block is free. The task has ended after so many steps.
-    Full(u32),
+    /// 10: no block is free. The task has ended.
+    Full { steps: u32 },
     /// 11: a task names the handle.
     InUse,
     /// 12: there is no such block with a live handle, cell or entry.
@@ -47,29 +47,55 @@ impl From<Damaged> for Refusal {
     }
 }
 
+/// Document 01's number.
+impl From<Refusal> for u32 {
+    ghost use Rattle.std.specs.Prelude.{◌≡◌};
+    ghost use Rattle.rulebook.specs.Answers.{refusal as number_of};
+    ghost use Rattle.acts.specs.Told.{refused_as};
+
+    ghost from_gives = { λ r n. n ≡ number_of (refused_as r) };
+
+    fn from(refusal: Refusal) -> u32 {
+        match refusal {
+            Refusal::NoPool => 1,
+            Refusal::Damaged => 2,
+            Refusal::NoRoom => 3,
+            Refusal::NoTask => 4,
+            Refusal::Busy => 5,
+            Refusal::Idle => 6,
+            Refusal::Dead => 7,
+            Refusal::NoCell => 8,
+            Refusal::NoSlot => 9,
+            Refusal::Full { .. } => 10,
+            Refusal::InUse => 11,
+            Refusal::Unseen => 12,
+        }
+    }
+}
+
 /// What an accepted call tells.
 #[derive(Clone, Copy, Debug, PartialEq, Eq)]
 pub enum Told {
     /// Nothing.
     Quiet,
-    /// open: B.
-    Opened(u32),
-    /// A page hands out a cell: cell, value.
-    Handed(u32, u32),
-    /// A page hands out its last cell and ends: steps, cell, value.
-    HandedLast(u32, u32, u32),
-    /// A get ends: steps, cell, value.
-    Got(u32, u32, u32),
-    /// A new or a set ends: steps, the new handle's public number.
-    Made(u32, u32),
+    /// open.
+    Opened { blocks: u32 },
+    /// A page hands out a cell.
+    Handed { cell: u32, value: u32 },
+    /// A page hands out its last cell and ends.
+    HandedLast { steps: u32, cell: u32, value: u32 },
+    /// A get ends.
+    Got { steps: u32, cell: u32, value: u32 },
+    /// A new or a set ends, with the new handle's public number.
+    Made { steps: u32, handle: u32 },
     /// A look at V, a cell or a log's length.
     Shown(u32),
     /// A look at an entry.
     ShownEntry(Entry),
     /// A look at a task.
     ShownTask(Task),
-    /// Live handles, blocks in use.
-    Reported(u32, u32),
+    /// The live handles, and the blocks in use.
+    Reported { handles: u32, blocks: u32 },
 }
 
 /// Who reads a cell by the steps of a get.

@@ -54,5 +54,5 @@ pub fn open(words: &mut [u32], cells: u32, handles: u32, tasks: u32) -> Result<T
     let sizes = sizes(length, cells, handles, tasks).ok_or(Refusal::NoRoom)?;
     let control = control_words(handles, tasks) as usize;
     write_control(&mut words[0..control], cells, handles, tasks, length as u32);
-    Ok(Told::Opened(sizes.b))
+    Ok(Told::Opened { blocks: sizes.b })
 }

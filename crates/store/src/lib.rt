@@ -12,7 +12,6 @@ ghost use Rattle.layout.specs.Calls.{start_new_in, start_get_in, start_set_in, s
 use acts::{Refusal, Told};
 pub use looks::{look_cell, look_entry, look_log, look_task, look_version, report};
 use pool::{PoolMut, header_of};
-use work::Turn;
 
 /// A store of so many cells, handles and tasks in the lent pool.
 pub fn open(words: &mut [u32], cells: u32, handles: u32, tasks: u32) -> Result<Told, Refusal>
@@ -78,11 +77,7 @@ pub fn step(words: &mut [u32], task: u32) -> Result<Told, Refusal>
     if sizes.t <= task {
         return Err(Refusal::NoTask);
     }
-    let mut turn = Turn {
-        pool: PoolMut::new(words, sizes),
-        task,
-    };
-    turn.step()
+    work::step(&mut PoolMut::new(words, sizes), task)
 }
 
 /// The handle is live no more.

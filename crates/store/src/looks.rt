@@ -86,5 +86,8 @@ pub fn report(words: &[u32]) -> Result<Told, Refusal>
     ensures { reply_of result ≡ report_in words.now }
 {
     let pool = Pool::of(words).ok_or(Refusal::NoPool)?;
-    Ok(Told::Reported(pool.live_handles()?, pool.stood_blocks()?))
+    Ok(Told::Reported {
+        handles: pool.live_handles()?,
+        blocks: pool.stood_blocks()?,
+    })
 }

@@ -1,12 +1,11 @@
 -- What a C function leaves: the pool, the answer slice and the number that it returns, each a total function of what it was given.
 -- Rests on the rule book's answers.
 use Prim.Native.Nat.{ℕ}
-use Rattle.std.specs.Prelude.{ltb, drop, length, if◌then◌else◌}
+use Rattle.std.specs.Prelude.{ltb, drop, length, replicate, if◌then◌else◌}
 use mathlib.Core.List.{List, [], ◌++◌, ◌∷◌}
 use Rattle.rulebook.specs.declared.Reply.{Reply}
 use Rattle.rulebook.specs.Answers.{refusal, word}
 use Rattle.rulebook.specs.State.{list_to}
-use Rattle.acts.specs.declared.Said.{Said}
 
 -- the first 16 words hold the numbers of the answer and then zeros, later words are left; the refusal number is returned
 unfoldable pub said_in : List ℕ → Reply → List ℕ × ℕ
@@ -20,20 +19,12 @@ answered_in f p a = if ltb (length a) 16 then ((p, a), 15) else (((f p).0, (said
 unfoldable pub shown_in : (List ℕ → Reply) → List ℕ → List ℕ → List ℕ × ℕ
 shown_in f p a = if ltb (length a) 16 then (a, 15) else said_in a (f p)
 
--- ---- an answer's numbers, as the code has them
+-- ---- an answer's words, as the code writes them
 
-abbrev pub listed : Said → List ℕ
-listed s = s.first ∷ s.second ∷ s.third ∷ s.fourth ∷ s.fifth ∷ s.sixth ∷ s.seventh ∷ s.eighth ∷ 0 ∷ 0 ∷ 0 ∷ 0 ∷ 0 ∷ 0 ∷ 0 ∷ 0 ∷ []
+-- the words that an answer leaves
+unfoldable pub words_in : List ℕ → Reply → List ℕ
+words_in a r = list_to 16 (λ (j : ℕ). word j r) ++ drop 16 a
 
-unfoldable pub listed_in : List ℕ → Said → List ℕ
-listed_in a s = listed s ++ drop 16 a
-
--- nothing is said
-abbrev pub zeros : List ℕ
-zeros = 0 ∷ 0 ∷ 0 ∷ 0 ∷ 0 ∷ 0 ∷ 0 ∷ 0 ∷ 0 ∷ 0 ∷ 0 ∷ 0 ∷ 0 ∷ 0 ∷ 0 ∷ 0 ∷ []
-
-unfoldable pub hushed : List ℕ → List ℕ
-hushed a = zeros ++ drop 16 a
-
-unfoldable pub spoken_in : List ℕ → Said → List ℕ × ℕ
-spoken_in a s = (if s.silent then hushed a else listed_in a s, s.refusal)
+-- eight numbers, and zeros
+abbrev pub listed : List ℕ → List ℕ
+listed l = l ++ replicate 8 0

@@ -1,3 +1,2 @@
 pub mod Stepped
-pub mod Turns
 pub mod Reach

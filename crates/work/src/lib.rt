@@ -3,8 +3,8 @@
 
 mod news;
 mod readings;
+mod row;
 mod sets;
 mod steps;
-mod turn;
 
-pub use turn::Turn;
+pub use steps::step;

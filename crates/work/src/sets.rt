@@ -1,92 +1,101 @@
 // One step each: a set, in place or by a copy.
-ghost use Rattle.std.specs.Prelude.{◌≡◌};
+ghost use Rattle.std.specs.Prelude.{◌<◌, ◌≡◌};
 ghost use Rattle.acts.specs.StepPlans.{after_exchange};
+ghost use Rattle.acts.specs.Told.{reply_of};
+ghost use Rattle.work.specs.Stepped.{step_at};
+ghost use Rattle.pool.specs.Loans.{IsSameLoan};
 
-use super::turn::Turn;
+use super::row::{counted, finish, go_on, next_serial};
 use acts::{Refusal, Told, after};
+use pool::PoolMut;
 use rulebook::{Entry, Hand, Reading, Stage, Task};
 
 // A first set with L < N goes on in place; every other set copies.
-fn first_set(task: Task, cells: u32) -> Task
-    ensures { result ≡ after_exchange cells task }
+fn first_set(row: Task, cells: u32) -> Task
+    ensures { result ≡ after_exchange cells row }
 {
-    if task.number < cells {
-        task.moved(Stage::Read, task.hand)
+    if row.number < cells {
+        row.moved(Stage::Read, row.hand)
     } else {
-        task.moved(Stage::TakeCopy, Hand::of(0))
+        row.moved(Stage::TakeCopy, Hand::of(0))
     }
 }
 
-impl Turn<'_> {
-    ghost use Rattle.std.specs.Prelude.{◌≡◌};
-    ghost use Rattle.acts.specs.Told.{reply_of};
-    ghost use Rattle.work.specs.Stepped.{step_at};
-    ghost use Rattle.work.specs.Turns.{IsSameTurn};
-
-    /// The exchange: if V = L, V becomes L + 1; otherwise nothing, and the set copies.
-    #[tactic(auto, unfolding(crate::specs::Stepped::step_at, acts::specs::StepPlans::plan_at, layout::specs::Pool::sight, acts::specs::StepPlans::exchanges_on), using(crate::proofs::Doing::doing))]
-    pub fn step_exchange(&mut self) -> Result<Told, Refusal>
-        ensures words { (self.new.pool.words.now, reply_of result) ≡ step_at self.old.pool.words.now self.old.pool.sizes self.old.task Stage.Exchange }
-        ensures same { IsSameTurn self.old self.new }
-    {
-        let task = self.counted();
-        if !self.pool.exchange(task.block, task.number)? {
-            return Ok(self.go_on(task.moved(Stage::TakeCopy, Hand::of(0))));
-        }
-        Ok(self.go_on(first_set(task, self.pool.sizes.n)))
+/// The exchange: if V = L, V becomes L + 1; otherwise nothing, and the set copies.
+#[tactic(auto, unfolding(crate::specs::Stepped::step_at, acts::specs::StepPlans::plan_at, layout::specs::Pool::sight, acts::specs::StepPlans::exchanges_on), using(crate::proofs::Doing::doing))]
+pub fn step_exchange(pool: &mut PoolMut<'_>, task: u32) -> Result<Told, Refusal>
+    requires { task < pool.old.sizes.t }
+    ensures words { (pool.new.words.now, reply_of result) ≡ step_at pool.old.words.now pool.old.sizes task Stage.Exchange }
+    ensures same { IsSameLoan pool.old pool.new }
+{
+    let row = counted(pool, task);
+    if !pool.exchange(row.block, row.number)? {
+        return Ok(go_on(pool, task, row.moved(Stage::TakeCopy, Hand::of(0))));
     }
+    Ok(go_on(pool, task, first_set(row, pool.sizes.n)))
+}
 
-    /// Read the cell; the old value is kept as the guess.
-    #[tactic(auto, unfolding(crate::specs::Stepped::step_at, acts::specs::StepPlans::plan_at, layout::specs::Pool::sight, acts::specs::StepPlans::reads_old), using(crate::proofs::Doing::doing))]
-    pub fn step_read(&mut self) -> Result<Told, Refusal>
-        ensures words { (self.new.pool.words.now, reply_of result) ≡ step_at self.old.pool.words.now self.old.pool.sizes self.old.task Stage.Read }
-        ensures same { IsSameTurn self.old self.new }
-    {
-        let task = self.counted();
-        let value = self.pool.as_pool().cell(task.block, task.cell)?;
-        Ok(self.go_on(task.moved(Stage::Append, task.hand.guessed(value))))
-    }
+/// Read the cell; the old value is kept as the guess.
+#[tactic(auto, unfolding(crate::specs::Stepped::step_at, acts::specs::StepPlans::plan_at, layout::specs::Pool::sight, acts::specs::StepPlans::reads_old), using(crate::proofs::Doing::doing))]
+pub fn step_read(pool: &mut PoolMut<'_>, task: u32) -> Result<Told, Refusal>
+    requires { task < pool.old.sizes.t }
+    ensures words { (pool.new.words.now, reply_of result) ≡ step_at pool.old.words.now pool.old.sizes task Stage.Read }
+    ensures same { IsSameLoan pool.old pool.new }
+{
+    let row = counted(pool, task);
+    let value = pool.as_pool().cell(row.block, row.cell)?;
+    Ok(go_on(
+        pool,
+        task,
+        row.moved(Stage::Append, row.hand.guessed(value)),
+    ))
+}
 
-    /// Append (L, value read) to the cell's log.
-    #[tactic(auto, unfolding(crate::specs::Stepped::step_at, acts::specs::StepPlans::plan_at, layout::specs::Pool::sight, acts::specs::StepPlans::appends_entry), using(crate::proofs::Doing::doing))]
-    pub fn step_append(&mut self) -> Result<Told, Refusal>
-        ensures words { (self.new.pool.words.now, reply_of result) ≡ step_at self.old.pool.words.now self.old.pool.sizes self.old.task Stage.Append }
-        ensures same { IsSameTurn self.old self.new }
-    {
-        let task = self.counted();
-        let entry = Entry {
-            version: task.number,
-            old: task.hand.guess,
-        };
-        self.pool.append(task.block, task.cell, entry)?;
-        Ok(self.go_on(task.moved(Stage::Write, task.hand)))
-    }
+/// Append (L, value read) to the cell's log.
+#[tactic(auto, unfolding(crate::specs::Stepped::step_at, acts::specs::StepPlans::plan_at, layout::specs::Pool::sight, acts::specs::StepPlans::appends_entry), using(crate::proofs::Doing::doing))]
+pub fn step_append(pool: &mut PoolMut<'_>, task: u32) -> Result<Told, Refusal>
+    requires { task < pool.old.sizes.t }
+    ensures words { (pool.new.words.now, reply_of result) ≡ step_at pool.old.words.now pool.old.sizes task Stage.Append }
+    ensures same { IsSameLoan pool.old pool.new }
+{
+    let row = counted(pool, task);
+    let entry = Entry {
+        version: row.number,
+        old: row.hand.guess,
+    };
+    pool.append(row.block, row.cell, entry)?;
+    Ok(go_on(pool, task, row.moved(Stage::Write, row.hand)))
+}
 
-    /// Write the cell: the new handle stands on the same block with L + 1.
-    #[tactic(auto, unfolding(crate::specs::Stepped::step_at, acts::specs::StepPlans::plan_at, layout::specs::Pool::sight, acts::specs::StepPlans::writes_new, acts::specs::StepPlans::finishes), using(crate::proofs::Doing::doing))]
-    pub fn step_write(&mut self) -> Result<Told, Refusal>
-        ensures words { (self.new.pool.words.now, reply_of result) ≡ step_at self.old.pool.words.now self.old.pool.sizes self.old.task Stage.Write }
-        ensures same { IsSameTurn self.old self.new }
-    {
-        let task = self.counted();
-        let serial = self.next_serial(task.fresh)?;
-        self.pool.write(task.block, task.cell, task.value)?;
-        Ok(self.finish(task, serial, task.block, after(task.number)))
-    }
+/// Write the cell: the new handle stands on the same block with L + 1.
+#[tactic(auto, unfolding(crate::specs::Stepped::step_at, acts::specs::StepPlans::plan_at, layout::specs::Pool::sight, acts::specs::StepPlans::writes_new, acts::specs::StepPlans::finishes), using(crate::proofs::Doing::doing))]
+pub fn step_write(pool: &mut PoolMut<'_>, task: u32) -> Result<Told, Refusal>
+    requires { task < pool.old.sizes.t }
+    ensures words { (pool.new.words.now, reply_of result) ≡ step_at pool.old.words.now pool.old.sizes task Stage.Write }
+    ensures same { IsSameLoan pool.old pool.new }
+{
+    let row = counted(pool, task);
+    let serial = next_serial(pool, row.fresh)?;
+    pool.write(row.block, row.cell, row.value)?;
+    Ok(finish(pool, task, row, serial, row.block, after(row.number)))
+}
 
-    /// One step of a copy writes the answer to the block being filled; then comes the next cell's get, or the last write.
-    #[tactic(auto, unfolding(crate::specs::Stepped::step_at, acts::specs::StepPlans::plan_at, layout::specs::Pool::sight, acts::specs::StepPlans::fills_copy), using(crate::proofs::Doing::doing))]
-    pub fn step_fill_copy(&mut self) -> Result<Told, Refusal>
-        ensures words { (self.new.pool.words.now, reply_of result) ≡ step_at self.old.pool.words.now self.old.pool.sizes self.old.task Stage.FillCopy }
-        ensures same { IsSameTurn self.old self.new }
-    {
-        let task = self.counted();
-        self.pool
-            .fill(task.target, task.hand.cell, task.hand.answer())?;
-        let next = after(task.hand.cell);
-        if next == self.pool.sizes.n {
-            return Ok(self.go_on(task.moved(Stage::Put, Hand::of(task.cell))));
-        }
-        Ok(self.go_on(task.moved(Stage::Copying(Reading::Guess), Hand::of(next))))
+/// One step of a copy writes the answer to the block being filled; then comes the next cell's get, or the last write.
+#[tactic(auto, unfolding(crate::specs::Stepped::step_at, acts::specs::StepPlans::plan_at, layout::specs::Pool::sight, acts::specs::StepPlans::fills_copy), using(crate::proofs::Doing::doing))]
+pub fn step_fill_copy(pool: &mut PoolMut<'_>, task: u32) -> Result<Told, Refusal>
+    requires { task < pool.old.sizes.t }
+    ensures words { (pool.new.words.now, reply_of result) ≡ step_at pool.old.words.now pool.old.sizes task Stage.FillCopy }
+    ensures same { IsSameLoan pool.old pool.new }
+{
+    let row = counted(pool, task);
+    pool.fill(row.target, row.hand.cell, row.hand.answer())?;
+    let next = after(row.hand.cell);
+    if next == pool.sizes.n {
+        return Ok(go_on(pool, task, row.moved(Stage::Put, Hand::of(row.cell))));
     }
+    Ok(go_on(
+        pool,
+        task,
+        row.moved(Stage::Copying(Reading::Guess), Hand::of(next)),
+    ))
 }

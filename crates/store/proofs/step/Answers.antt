@@ -8,7 +8,3 @@ use Rattle.store.proofs.step.Goals as goal
 pub returns-then-sizes-task : goal.returns-then-sizes-task
 unfolding step_in called_in plan_step sight
 returns-then-sizes-task c = search (rules, doing)
-
-pub returns : goal.returns
-unfolding step_in called_in
-returns c = let h = c.words-1.given in let g = c.turn-2-1.given in let m = c.step.ensures.same.loan in let w = c.step.ensures.words in ?

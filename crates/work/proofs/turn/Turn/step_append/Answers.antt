@@ -1,9 +1,0 @@
-use Rattle.std.proofs.Common.{rules}
-use Rattle.work.specs.Stepped.{step_at}
-use Rattle.acts.specs.StepPlans.{plan_at, appends_entry}
-use Rattle.work.proofs.Stages.{goes_err}
-use Rattle.work.proofs.turn.Turn.step_append.Goals as goal
-
-pub returns-in_err-append-clause-words : goal.returns-in_err-append-clause-words
-unfolding step_at plan_at appends_entry
-returns-in_err-append-clause-words c = rw (← c.counted-task.ensures) (goes_err _ _ _ _ _ c.append.result c.append.ensures.words c.in_err-append.field-0.0 (search rules) _ (search rules) _ _)
