@@ -5,6 +5,7 @@ use Rattle.std.proofs.Common.{◌∙◌, sym}
 use Rattle.std.specs.Option.{option_eq}
 use borrow.Author.Tests.{eq-eqb, eqb-false, eqb-true, ne_eqb}
 use Rattle.rulebook.specs.declared.Sizes.{Sizes}
+use Rattle.rulebook.specs.declared.Stage.{Stage}
 use Rattle.rulebook.specs.declared.Task.{Task}
 use Rattle.rulebook.specs.State.{fills, reserves}
 use Rattle.rulebook.specs.Tests.{by_test}
@@ -16,11 +17,15 @@ use Rattle.survey.specs.Decide.{◌implies◌}
 use Rattle.survey.specs.Rules.{task}
 use Rattle.survey.specs.Ways.{task_as, all-stop, all-on}
 
+-- what a task holds at the stages that f tells: the thing that g tells
+abbrev pub held_by : (Stage → Bool) → (Task → ℕ) → Task → Option ℕ
+held_by f g x = if f x.stage then Some (g x) else None
+
 unfoldable pub reserved_by : Task → Option ℕ
-reserved_by x = if reserves x.stage then Some x.fresh else None
+reserved_by = held_by reserves (λ x. x.fresh)
 
 unfoldable pub filled_by : Task → Option ℕ
-filled_by x = if fills x.stage then Some x.target else None
+filled_by = held_by fills (λ x. x.target)
 
 -- the task u does not hold the thing, or it is task t
 unfoldable pub alone_at : Sizes → List ℕ → (Task → Option ℕ) → ℕ → ℕ → ℕ → Bool
@@ -34,20 +39,23 @@ all_same f g h (suc n) = rw (all_same f g h n, h n)
 flip : (a b : ℕ) → eqb a b ≡ eqb b a
 flip a b = by_test (eqb a b) (λ e. e ∙ sym (eq-eqb b a (sym (eqb-true a b e)))) (λ e. e ∙ sym (ne_eqb b a (λ z. eqb-false a b e (sym z))))
 
+-- no task but t holds what the task x, which is task t, does
 module _ (d : Sizes) (p : List ℕ) (x : Task) (t : ℕ) where
-  fresh_same : (u : ℕ) → alone_at d p reserved_by t x.fresh u ≡ fresh_apart d p x t u
-  unfolding alone_at fresh_apart reserved_by
-  fresh_same u = by_test (reserves (task d p u).stage) (λ e. rw (e, flip (task d p u).fresh x.fresh)) (λ e. rw e)
+  module _ (f : Stage → Bool) (g : Task → ℕ) where
+    apart_at : (u : ℕ) → alone_at d p (held_by f g) t (g x) u ≡ (f (task d p u).stage implies (eqb (g x) (g (task d p u)) implies eqb t u))
+    unfolding alone_at
+    apart_at u = by_test (f (task d p u).stage) (λ e. rw (e, flip (g (task d p u)) (g x))) (λ e. rw e)
 
-  target_same : (u : ℕ) → alone_at d p filled_by t x.target u ≡ target_apart d p x t u
-  unfolding alone_at target_apart filled_by
-  target_same u = by_test (fills (task d p u).stage) (λ e. rw (e, flip (task d p u).target x.target)) (λ e. rw e)
+    pub alone_held : (n : ℕ) → all_to (alone_at d p (held_by f g) t (g x)) n ≡ all_to (λ (u : ℕ). f (task d p u).stage implies (eqb (g x) (g (task d p u)) implies eqb t u)) n
+    alone_held n = all_same _ _ apart_at n
 
   pub alone_fresh : (n : ℕ) → all_to (alone_at d p reserved_by t x.fresh) n ≡ all_to (fresh_apart d p x t) n
-  alone_fresh n = all_same (alone_at d p reserved_by t x.fresh) (fresh_apart d p x t) fresh_same n
+  unfolding reserved_by fresh_apart
+  alone_fresh n = alone_held reserves (λ y. y.fresh) n
 
   pub alone_target : (n : ℕ) → all_to (alone_at d p filled_by t x.target) n ≡ all_to (target_apart d p x t) n
-  alone_target n = all_same (alone_at d p filled_by t x.target) (target_apart d p x t) target_same n
+  unfolding filled_by target_apart
+  alone_target n = alone_held fills (λ y. y.target) n
 
 -- ---- from task to task: what task u holds is r
 

@@ -7,13 +7,13 @@ ghost use Rattle.survey.specs.Chains.{Chained, ChainedTo};
 ghost use Rattle.survey.specs.Apart.{Told, Unmet};
 
 use pool::Pool;
-use rulebook::{MOST_BLOCKS, MOST_HANDLES};
+use rulebook::{MOST_BLOCKS, MOST_CELLS, MOST_HANDLES};
 
 // No slot and no block; arrays start with it. An Option in them would double them.
 const NONE: u32 = 256;
 
 // A mark for each number that a handle may have: 0 to N.
-const NUMBERS: usize = 4097;
+const NUMBERS: usize = MOST_CELLS as usize + 1;
 
 // The handle in the slot, if it is live, comes first on the chain of its block.
 fn chain_slot(pool: Pool<'_>, slot: u32, first: &mut [u32], next: &mut [u32])

@@ -35,11 +35,7 @@ fn names_live(pool: Pool<'_>, task: u32) -> bool
 fn reserved_by(task: Task) -> Option<u32>
     ensures { result ≡ reserved_by task }
 {
-    if task.stage.reserves_slot() {
-        Some(task.fresh)
-    } else {
-        None
-    }
+    task.stage.reserves_slot().then_some(task.fresh)
 }
 
 // The block that the task fills.
@@ -47,16 +43,12 @@ fn reserved_by(task: Task) -> Option<u32>
 fn filled_by(task: Task) -> Option<u32>
     ensures { result ≡ filled_by task }
 {
-    if task.stage.fills_block() {
-        Some(task.target)
-    } else {
-        None
-    }
+    task.stage.fills_block().then_some(task.target)
 }
 
-// No task but this one holds the thing.
+/// No task but this one holds the thing.
 #[tactic(auto, using(crate::specs::Ways::loops))]
-fn alone<F: Fn(Task) -> Option<u32>>(pool: Pool<'_>, task: u32, thing: u32, holds: F) -> bool
+pub fn alone<F: Fn(Task) -> Option<u32>>(pool: Pool<'_>, task: u32, thing: u32, holds: F) -> bool
     ghost held: { Task → Option ℕ }
     requires may { (other : Task) → F.pre holds other }
     requires gives { (other : Task) (found : Option ℕ) → F.post holds other found → found ≡ held other }
@@ -79,9 +71,7 @@ fn fresh_at(pool: Pool<'_>, task: u32) -> bool
     let Some(slot) = reserved_by(pool.raw_task(task)) else {
         return true;
     };
-    slot < pool.sizes.h
-        && pool.raw_slot(slot).is_reserved()
-        && alone(pool, task, slot, |other| reserved_by(other))
+    slot < pool.sizes.h && pool.raw_slot(slot).is_reserved() && alone(pool, task, slot, reserved_by)
 }
 
 #[tactic(auto, unfolding(crate::specs::Broken::off_target), using(layout::specs::View::view_slot_at, layout::specs::View::view_task_at))]
@@ -103,7 +93,7 @@ fn target_at(pool: Pool<'_>, task: u32) -> bool
     let Some(block) = filled_by(busy) else {
         return true;
     };
-    alone(pool, task, block, |other| filled_by(other))
+    alone(pool, task, block, filled_by)
         && all_below(pool.sizes.h, move |slot| off_target(pool, busy, slot))
 }
 
