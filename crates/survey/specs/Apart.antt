@@ -269,6 +269,6 @@ unmet-start =
       fresh = λ x l _. (let e = get_or-replicate {A = ℕ} most_numbers x none 0 l in omega arith);
     }
 
-pub ruleset downs = (first-inside, down_start, down_spans, down_end, down_row, down_next, down_less, down_twice, down_step)
+pub ruleset downs = (down_start, down_end, down_row, down_less, down_twice, down_step)
 
-pub ruleset aparts = (apart-start, apart-unmet, apart-stop, apart_next, apart-end)
+pub ruleset aparts = (apart-stop, apart_next, apart-end)

@@ -90,6 +90,6 @@ module _ (d : Sizes) (p : List ℕ) where
     pub marked-stood : (b : Bool) → b ≡ marked m k → b ≡ stood (shown d p) k
     marked-stood b e = let z = sp.blocks in e ∙ s.tells k (omega arith)
 
-pub ruleset marks = (mark-idle, mark-outside, mark_set, mark-inside)
+pub ruleset marks = (mark-idle, mark-outside, mark_set)
 
 pub ruleset told = (marked-inside, marked-stood)

@@ -117,4 +117,4 @@ module _ (d : Sizes) (p : List ℕ) where
   unfolding rule4
   four_is r e = e
 
-pub ruleset tallies = (counts-here, counts-spans, tally-start, tally-spans, tally-below, tally-fits, tally-on, tally-end, four_free, four-version, four-last)
+pub ruleset tallies = (counts-here, tally-end, four_free, four-version, four-last)

@@ -271,4 +271,4 @@ module _ (d : Sizes) (p : List ℕ) where
                     rise = λ g. (let z = s.last g in let y = stamp_is inside in omega arith);
                   }
 
-pub ruleset walks = (blocks_start, blocks_skip, blocks_end, logs-start, logs-end, logs_broken, entries-start, entries-end, stamp_within, broken-below, stamp_small, stamp_marked, stamp_next, broken-rise, broken_twice, entries-step)
+pub ruleset walks = (blocks_skip, blocks_end, logs-start, logs-end, logs_broken, entries-end, broken-below, broken-rise, broken_twice, entries-step)

@@ -18,7 +18,7 @@ fn stands_as(task: Task, slot: Slot) -> bool
 }
 
 // The handle that the task names is live.
-#[tactic(auto, unfolding(crate::specs::Broken::named_at), using(layout::specs::View::view_slot_at, layout::specs::View::view_task_at))]
+#[tactic(auto, unfolding(crate::specs::Broken::named_at, crate::specs::Holds::stands_as), using(layout::specs::View::view_slot_at, layout::specs::View::view_task_at, crate::specs::Ways::beyond))]
 fn names_live(pool: Pool<'_>, task: u32) -> bool
     requires { task < pool.sizes.t }
     ensures { result ≡ named_at pool.entry.sizes pool.entry.words.now task }
