@@ -2,13 +2,13 @@
 -- Rests on Chains and Decided.
 use Rattle.std.specs.Prelude.{◌+◌, ◌<◌, ◌≤◌, ℕ, Bool, false, not, true, List, ◌≡◌, refl, eqb, ltb, get_or, length, replicate, set, if◌then◌else◌}
 use Rattle.std.proofs.lemmas.Bool.{false≢true}
-use Rattle.std.proofs.Common.{true≢false, ◌∙◌, ap, subst, sym, not-suc-le-zero, arith, length-set, get_or-set_other, get_or-set_same}
+use Rattle.std.proofs.Common.{true≢false, ◌∙◌, ap, subst, sym, arith, length-set, get_or-set_other, get_or-set_same}
 use Rattle.std.proofs.lemmas.List.{get_or-replicate, length-replicate}
 use borrow.Author.Tests.{eqb-false, eqb-true, ltb-false, ltb-true, ne_eqb, not-false, not-true}
 use Rattle.rulebook.specs.declared.Sizes.{Sizes}
 use Rattle.rulebook.specs.declared.Slot.{Slot}
 use Rattle.block.specs.Walk.{Decides}
-use Rattle.layout.specs.Places.{Spans, slot_part}
+use Rattle.layout.specs.Places.{slot_part}
 use Rattle.layout.specs.Rows.{slot_read}
 use Rattle.rulebook.specs.Tests.{by_test}
 use Rattle.survey.specs.Broken.{rule5}
@@ -63,9 +63,6 @@ module _ (d : Sizes) (p : List ℕ) where
   -- ---- along a chain
 
   module _ (first next : List ℕ) (c : Chained d p first next) (k : ℕ) (l : k < d.b) where
-    pub first-inside : k < length first
-    first-inside = let a = c.spans.blocks in let b = c.chains.first_sized in omega arith
-
     pub down_start : (seen : List ℕ) → Unmet k seen → Down first next k (get_or first k 0) seen
     down_start seen u =
         record {
@@ -85,9 +82,6 @@ module _ (d : Sizes) (p : List ℕ) where
         is = c.chains.firsts k (let a = c.spans.blocks in omega arith)
 
   module _ (first next : List ℕ) (k j : ℕ) (seen : List ℕ) (s : Down first next k j seen) where
-    pub down_spans : Spans d p
-    down_spans = s.on.spans
-
     pub down_end : j ≡ none → Told k seen true
     down_end o =
         record {
@@ -109,9 +103,6 @@ module _ (d : Sizes) (p : List ℕ) where
 
       pub down_row : j < d.h
       down_row = let a = here.below in let b = s.most in omega arith
-
-      pub down_next : j < length next
-      down_next = let a = down_row in let b = s.on.spans.handles in let c = s.on.chains.next_sized in omega arith
 
       on-next : get_or next j 0 ≡ last_to (stands_on d p k) j
       on-next = s.on.chains.nexts k j down_row here.holds
@@ -232,12 +223,6 @@ module _ (d : Sizes) (p : List ℕ) where
             let b = stands-both d p k l h in
             r.apart i l a.0 b.0 (a.1 ∙ sym b.1);
       }
-
-  pub apart-start : (seen : List ℕ) → Unmet 0 seen → ApartTo 0 seen
-  apart-start seen u = record { most = omega arith; blocks = λ x l. absurd (not-suc-le-zero l); unmet = u }
-
-  pub apart-unmet : (k : ℕ) (seen : List ℕ) → ApartTo k seen → Unmet k seen
-  apart-unmet k seen s = s.unmet
 
   module _ (k : ℕ) (seen : List ℕ) (r : Bool) (t : Told k seen r) where
     pub apart-stop : not r ≡ true → false ≡ rule5 d p

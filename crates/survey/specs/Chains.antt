@@ -170,9 +170,4 @@ module _ (d : Sizes) (p : List ℕ) where
                     get_or-set_other next j i (get_or first x.block 0) 0 (eqb-false i j z) ∙ s.nexts k i (omega (arith, eqb-false i j z)) h);
               }
 
-  pub chain_end : Spans d p → Rule2 d p → (j : ℕ) (first next : List ℕ) → ChainedTo j first next → j ≤ d.h → d.h ≤ j → Chained first next
-  chain_end sp two j first next s l o =
-      let e : j ≡ d.h = omega arith in
-      record { spans = sp; two = two; chains = subst (λ (m : ℕ). ChainedTo m first next) e s }
-
 pub ruleset chains = (chain_idle, chain_set)

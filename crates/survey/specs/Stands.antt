@@ -75,9 +75,6 @@ module _ (d : Sizes) (p : List ℕ) where
             ∙ s.met k i ∙ sym (or-false (some_to (stands_on d p k) j)) ∙ ap (λ (y : Bool). some_to (stands_on d p k) j || y) (sym z ∙ on k) ∙ sym (next j k));
       }
 
-  pub mark-inside : (j k : ℕ) (m : List ℕ) → MarkedTo j m → k < most_blocks → k < length m
-  mark-inside j k m s l = omega (arith, s.sized)
-
   pub mark-end : (j : ℕ) (m : List ℕ) → MarkedTo j m → j ≤ d.h → d.h ≤ j → Marked m
   mark-end j m s l o =
       let e : j ≡ d.h = omega arith in

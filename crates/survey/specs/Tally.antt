@@ -2,7 +2,7 @@
 -- Rests on Logs.
 use Rattle.std.specs.Prelude.{◌*◌, ◌+◌, ◌<◌, ◌≤◌, min, suc, zero, ℕ, Bool, false, not, List, [], ◌++◌, ◌∷◌, ◌≡◌, length}
 use Rattle.std.proofs.Math.Bool.{true}
-use Rattle.std.proofs.Common.{◌∙◌, ap, sym, add-one, arith}
+use Rattle.std.proofs.Common.{◌∙◌, ap, sym, arith}
 use Rattle.std.proofs.Math.Path.{refl}
 use Rattle.std.proofs.Math.Nat.{le-min, min-le_left, min-le_right}
 use Rattle.std.proofs.Math.Dec.{leb}
@@ -17,8 +17,8 @@ use Rattle.layout.specs.View.{view_block_at}
 use Rattle.rulebook.specs.Lists.{list_to-length, list_to_snoc}
 use Rattle.rulebook.specs.State.{Block, block_at, list_to, stood}
 use Rattle.rulebook.specs.Tests.{by_test}
-use Rattle.theorems.specs.Terms.{all_to, entries}
-use Rattle.survey.specs.Broken.{rule4, rule4_at}
+use Rattle.theorems.specs.Terms.{entries}
+use Rattle.survey.specs.Broken.{rule4_at}
 use Rattle.survey.specs.Decide.{◌implies◌}
 use Rattle.survey.specs.Logs.{Walkable, stood_walkable}
 use Rattle.survey.specs.Rules.{Rule2, Rule3, shown}
@@ -57,36 +57,10 @@ module _ (d : Sizes) (p : List ℕ) where
   counts-here sp two three k l b e q =
       record { spans = sp; below = l; logs = stood_walkable d p two three k l (sym e ∙ not-false b q) }
 
-  module _ (k : ℕ) where
-    pub counts-spans : Counts k → Spans d p
-    counts-spans s = s.spans
-
-    pub tally-start : Counts k → TallyAt k 0 0
-    tally-start s = record { on = s; most = omega arith; is = refl; small = omega arith }
-
-    module _ (total i : ℕ) (s : TallyAt k total i) where
-      pub tally-spans : Spans d p
-      tally-spans = s.on.spans
-
-      pub tally-below : k < d.b
-      tally-below = s.on.below
-
-      module _ (m : ℕ) (l : i < d.n) (e : m ≡ length_of d.n (block_part p d k) i) where
-        pub tally-fits : total + m < 4294967296
-        tally-fits =
-            let a = s.small in let b = s.on.spans.cells in let c = s.on.logs.short i l in omega arith
-
-        pub tally-on : TallyAt k (total + m) (i + 1)
-        tally-on =
-            let a = s.small in let b = s.on.spans.cells in let c = s.on.logs.short i l in
-            let next : sum_to (i + 1) (length_of d.n (block_part p d k)) ≡ sum_to (suc i) (length_of d.n (block_part p d k)) = ap (λ (x : ℕ). sum_to x (length_of d.n (block_part p d k))) (add-one i) in
-            let t = s.is in
-            record { on = s.on; most = omega arith; is = omega arith; small = omega arith }
-
-      pub tally-end : d.n ≤ i → total ≡ entries (block_at (shown d p) k).logs
-      tally-end l =
-          let q : i ≡ d.n = (let m = s.most in omega arith) in
-          s.is ∙ ap (λ (x : ℕ). sum_to x (length_of d.n (block_part p d k))) q ∙ sym (ap (λ (b : Block). entries b.logs) (view_block_at d p k s.on.below) ∙ block-entries d.n (block_part p d k))
+  pub tally-end : (k total i : ℕ) → TallyAt k total i → d.n ≤ i → total ≡ entries (block_at (shown d p) k).logs
+  tally-end k total i s l =
+      let q : i ≡ d.n = (let m = s.most in omega arith) in
+      s.is ∙ ap (λ (x : ℕ). sum_to x (length_of d.n (block_part p d k))) q ∙ sym (ap (λ (b : Block). entries b.logs) (view_block_at d p k s.on.below) ∙ block-entries d.n (block_part p d k))
 
   -- ---- rule 4 of a block
 
@@ -112,9 +86,5 @@ module _ (d : Sizes) (p : List ℕ) where
 
           not_so : d.n < total → false ≡ (stood (shown d p) k implies leb (entries (block_at (shown d p) k).logs) (min (block_at (shown d p) k).version d.n))
           not_so h = let z = min-le_right v d.n in rw (← e, not-false b q, ← f, version-here d p k l v g, lt-leb total (min v d.n) (omega arith))
-
-  pub four_is : (r : Bool) → r ≡ all_to (rule4_at d p) d.b → r ≡ rule4 d p
-  unfolding rule4
-  four_is r e = e
 
 pub ruleset tallies = (counts-here, tally-end, four_free, four-version, four-last)
