@@ -1,5 +1,4 @@
 // Rule 5, where rule 2 holds: one pass over the slots chains the live handles of each block, and a number met twice on one chain breaks the rule.
-// Rests on specs/Chains and specs/Apart.
 ghost use Rattle.std.specs.Prelude.{◌≡◌, ◌+◌, ◌<◌};
 ghost use Rattle.survey.specs.Rules.{Rule2};
 ghost use Rattle.survey.specs.Broken.{rule5};

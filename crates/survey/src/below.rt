@@ -3,7 +3,7 @@ ghost use Rattle.std.specs.Prelude.{◌≡◌, ◌<◌, ℕ, Bool};
 ghost use Rattle.theorems.specs.Terms.{all_to};
 ghost use Rattle.survey.specs.Decide.{some_to};
 
-#[tactic(auto, using(crate::specs::Ways::loops))]
+#[tactic(auto, using(crate::proofs::Ways::loops))]
 /// Whether the test holds of each of 0, .. count - 1.
 pub fn all_below<F: Fn(u32) -> bool>(count: u32, test: F) -> bool
     ghost says: { ℕ → Bool }
@@ -19,7 +19,7 @@ pub fn all_below<F: Fn(u32) -> bool>(count: u32, test: F) -> bool
     true
 }
 
-#[tactic(auto, using(crate::specs::Ways::loops))]
+#[tactic(auto, using(crate::proofs::Ways::loops))]
 /// Whether the test holds of one of 0, .. count - 1.
 pub fn any_below<F: Fn(u32) -> bool>(count: u32, test: F) -> bool
     ghost says: { ℕ → Bool }

@@ -18,7 +18,7 @@ fn stands_as(task: Task, slot: Slot) -> bool
 }
 
 // The handle that the task names is live.
-#[tactic(auto, unfolding(crate::specs::Broken::named_at, crate::specs::Holds::stands_as), using(layout::specs::View::view_slot_at, layout::specs::View::view_task_at, crate::specs::Ways::beyond))]
+#[tactic(auto, unfolding(crate::specs::Broken::named_at, crate::specs::Holds::stands_as), using(layout::specs::View::view_slot_at, layout::specs::View::view_task_at, crate::proofs::Ways::beyond))]
 fn names_live(pool: Pool<'_>, task: u32) -> bool
     requires { task < pool.sizes.t }
     ensures { result ≡ named_at pool.entry.sizes pool.entry.words.now task }
@@ -47,7 +47,7 @@ fn filled_by(task: Task) -> Option<u32>
 }
 
 /// No task but this one holds the thing.
-#[tactic(auto, using(crate::specs::Ways::loops))]
+#[tactic(auto, using(crate::proofs::Ways::loops))]
 pub fn alone<F: Fn(Task) -> Option<u32>>(pool: Pool<'_>, task: u32, thing: u32, holds: F) -> bool
     ghost held: { Task → Option ℕ }
     requires may { (other : Task) → F.pre holds other }
@@ -63,7 +63,7 @@ pub fn alone<F: Fn(Task) -> Option<u32>>(pool: Pool<'_>, task: u32, thing: u32, 
 }
 
 // The slot that the task has reserved is reserved, and for it alone.
-#[tactic(auto, unfolding(crate::specs::Broken::fresh_at, crate::specs::Held::reserved_by), using(layout::specs::View::view_slot_at, layout::specs::View::view_task_at, crate::specs::Held::alone_fresh))]
+#[tactic(auto, unfolding(crate::specs::Broken::fresh_at, crate::specs::Held::reserved_by), using(layout::specs::View::view_slot_at, layout::specs::View::view_task_at, crate::proofs::Holding::alone_fresh))]
 fn fresh_at(pool: Pool<'_>, task: u32) -> bool
     requires { task < pool.sizes.t }
     ensures { result ≡ fresh_at pool.entry.sizes pool.entry.words.now task }
@@ -84,7 +84,7 @@ fn off_target(pool: Pool<'_>, task: Task, slot: u32) -> bool
 }
 
 // The block that the task fills has no other task and no live handle.
-#[tactic(auto, unfolding(crate::specs::Broken::target_at, crate::specs::Held::filled_by), using(layout::specs::View::view_slot_at, layout::specs::View::view_task_at, crate::specs::Held::alone_target))]
+#[tactic(auto, unfolding(crate::specs::Broken::target_at, crate::specs::Held::filled_by), using(layout::specs::View::view_slot_at, layout::specs::View::view_task_at, crate::proofs::Holding::alone_target))]
 fn target_at(pool: Pool<'_>, task: u32) -> bool
     requires { task < pool.sizes.t }
     ensures { result ≡ target_at pool.entry.sizes pool.entry.words.now task }

@@ -1,5 +1,4 @@
--- The laws of a loop that looks for a row that fails, and that a row or a block's version as it lies is the state's.
--- Rests on Decide and Searches.
+-- A loop that looks for a row that fails, and that a row or a block's version as it lies is the state's.
 use Rattle.std.specs.Prelude.{◌+◌, ◌<◌, ◌≤◌, ℕ, Bool, false, not, true, List, ◌≡◌}
 use Rattle.std.proofs.lemmas.Bool.{false≢true}
 use Rattle.std.proofs.Common.{◌∙◌, ap, sym, add-one, arith}
@@ -16,9 +15,9 @@ use Rattle.layout.specs.View.{view_block_at, view_slot_at, view_task_at}
 use Rattle.rulebook.specs.State.{Block, block_at}
 use Rattle.rulebook.specs.Tests.{by_test}
 use Rattle.theorems.specs.Terms.{all_to}
-use Rattle.survey.specs.Decide.{all-at}
-use Rattle.survey.specs.Decided.{slot-beyond}
-use Rattle.survey.specs.Searches.{some_end, some-on, some-start, some-stop}
+use Rattle.survey.proofs.Deciding.{all-at}
+use Rattle.survey.proofs.Decided.{slot-beyond}
+use Rattle.survey.proofs.Finding.{some_end, some-on, some-start, some-stop}
 use Rattle.survey.specs.Rules.{shown, slot, task}
 use Rattle.rulebook.specs.declared.Status.TheVariants as status
 

@@ -1,5 +1,4 @@
 -- Rule 3's walk over blocks, cells and entries: what holds at each of its loops, and what each way on or out of them owes.
--- Rests on Logs and the block's marks.
 use Rattle.std.specs.Prelude.{◌+◌, ◌-◌, ◌<◌, ◌≤◌, ℕ, Bool, false, not, true, List, ◌≡◌, eqb, ltb, get_or, length, replicate, set}
 use Rattle.std.proofs.Common.{true≢false, inl, ⊎_elim, ◌∙◌, ap, subst, sym, arith, eqb-true, le-ltb, lt-ltb, ltb-false, ltb-true}
 use Rattle.std.proofs.lemmas.List.{get_or-replicate, length-replicate}
@@ -12,8 +11,9 @@ use Rattle.layout.specs.Places.{Spans, block_part}
 use Rattle.rulebook.specs.State.{stood}
 use Rattle.rulebook.specs.Tests.{by_test}
 use Rattle.survey.specs.Broken.{rule3}
-use Rattle.survey.specs.Decided.{decides_3}
-use Rattle.survey.specs.Logs.{BlockRule, EntryRule, LogRule, blocks-three, climb, rule_short, stamp_of, stood-version, three-blocks}
+use Rattle.survey.proofs.Decided.{decides_3}
+use Rattle.survey.specs.Logs.{BlockRule, EntryRule, LogRule, stamp_of}
+use Rattle.survey.proofs.LogRules.{blocks-three, climb, rule_short, stood-version, three-blocks}
 use Rattle.survey.specs.Rules.{Rule2, Rule3, shown}
 
 -- how many marks there are: one for each version below the greatest V
