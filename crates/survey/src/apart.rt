@@ -65,7 +65,7 @@ fn blocks_apart(pool: Pool<'_>, first: &[u32], next: &[u32], seen: &mut [u32]) -
     true
 }
 
-/// Rule 5.
+/// Rule 5, where rule 2 holds.
 pub fn all_apart(pool: Pool<'_>) -> bool
     requires { Rule2 pool.sizes pool.words.now }
     ensures { result ≡ rule5 pool.entry.sizes pool.entry.words.now }

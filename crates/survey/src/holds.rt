@@ -74,7 +74,7 @@ fn fresh_at(pool: Pool<'_>, task: u32) -> bool
     slot < pool.sizes.h && pool.raw_slot(slot).is_reserved() && alone(pool, task, slot, reserved_by)
 }
 
-#[tactic(auto, unfolding(crate::specs::Broken::off_target), using(layout::specs::View::view_slot_at, layout::specs::View::view_task_at))]
+#[tactic(auto, unfolding(crate::specs::Broken::off_target), using(layout::specs::View::view_slot_at))]
 fn off_target(pool: Pool<'_>, task: Task, slot: u32) -> bool
     requires { slot < pool.sizes.h }
     ensures { result ≡ off_target pool.entry.sizes pool.entry.words.now task slot }
@@ -84,7 +84,7 @@ fn off_target(pool: Pool<'_>, task: Task, slot: u32) -> bool
 }
 
 // The block that the task fills has no other task and no live handle.
-#[tactic(auto, unfolding(crate::specs::Broken::target_at, crate::specs::Held::filled_by), using(layout::specs::View::view_slot_at, layout::specs::View::view_task_at, crate::proofs::Holding::alone_target))]
+#[tactic(auto, unfolding(crate::specs::Broken::target_at, crate::specs::Held::filled_by), using(layout::specs::View::view_task_at, crate::proofs::Holding::alone_target))]
 fn target_at(pool: Pool<'_>, task: u32) -> bool
     requires { task < pool.sizes.t }
     ensures { result ≡ target_at pool.entry.sizes pool.entry.words.now task }
@@ -97,7 +97,7 @@ fn target_at(pool: Pool<'_>, task: u32) -> bool
         && all_below(pool.sizes.h, move |slot| off_target(pool, busy, slot))
 }
 
-#[tactic(auto, unfolding(crate::specs::Broken::rule6_at), using(layout::specs::View::view_slot_at, layout::specs::View::view_task_at))]
+#[tactic(auto, unfolding(crate::specs::Broken::rule6_at))]
 fn holds_well(pool: Pool<'_>, task: u32) -> bool
     requires { task < pool.sizes.t }
     ensures { result ≡ rule6_at pool.entry.sizes pool.entry.words.now task }
@@ -105,7 +105,7 @@ fn holds_well(pool: Pool<'_>, task: u32) -> bool
     names_live(pool, task) && fresh_at(pool, task) && target_at(pool, task)
 }
 
-#[tactic(auto, unfolding(crate::specs::Broken::owns_at, crate::specs::Held::reserved_by), using(layout::specs::View::view_slot_at, layout::specs::View::view_task_at))]
+#[tactic(auto, unfolding(crate::specs::Broken::owns_at, crate::specs::Held::reserved_by), using(layout::specs::View::view_task_at))]
 fn owns(pool: Pool<'_>, slot: u32, task: u32) -> bool
     requires { task < pool.sizes.t }
     ensures { result ≡ owns_at pool.entry.sizes pool.entry.words.now slot task }
@@ -114,7 +114,7 @@ fn owns(pool: Pool<'_>, slot: u32, task: u32) -> bool
 }
 
 // The slot, if it is reserved, belongs to a task.
-#[tactic(auto, unfolding(crate::specs::Broken::owner_at), using(layout::specs::View::view_slot_at, layout::specs::View::view_task_at))]
+#[tactic(auto, unfolding(crate::specs::Broken::owner_at), using(layout::specs::View::view_slot_at))]
 fn owner_at(pool: Pool<'_>, slot: u32) -> bool
     requires { slot < pool.sizes.h }
     ensures { result ≡ owner_at pool.entry.sizes pool.entry.words.now slot }
@@ -124,7 +124,7 @@ fn owner_at(pool: Pool<'_>, slot: u32) -> bool
 }
 
 /// Rule 6.
-#[tactic(auto, unfolding(crate::specs::Broken::rule6), using(layout::specs::View::view_slot_at, layout::specs::View::view_task_at))]
+#[tactic(auto, unfolding(crate::specs::Broken::rule6))]
 pub fn all_held_once(pool: Pool<'_>) -> bool
     ensures { result ≡ rule6 pool.entry.sizes pool.entry.words.now }
 {
