@@ -15,7 +15,7 @@ use survey::all_below;
 // ---- a get in hand
 
 // How many binary digits the number has.
-#[tactic(auto, using(crate::specs::Paces::lefts))]
+#[tactic(auto, using(crate::specs::Paces::digits_as))]
 fn digits_of(number: u32) -> u32
     ensures { (result ≡ digits number) × (result ≤ 32) }
 {
@@ -82,7 +82,7 @@ fn page_most(cells: u32, from: u32, to: u32) -> u32
 // ---- every task
 
 // The steps are those of the stage, of a task in its ranges.
-#[tactic(auto, unfolding(crate::specs::Paces::pace_at), using(crate::specs::Paces::paces))]
+#[tactic(auto, unfolding(crate::specs::Paces::pace_at))]
 fn pace_at(sizes: Sizes, task: Task) -> bool
     requires { (sizes.n ≤ most_cells) × Ranged sizes task }
     ensures { result ≡ pace_at sizes.n task.stage task }
@@ -113,10 +113,8 @@ fn task_sound(pool: Pool<'_>, index: u32) -> bool
     requires { index < pool.sizes.t }
     ensures { result ≡ task_sound pool.entry.sizes pool.entry.words.now index }
 {
-    match pool.ranged_task(index) {
-        Ok(task) => pace_at(pool.sizes, task),
-        Err(_) => false,
-    }
+    pool.ranged_task(index)
+        .is_ok_and(move |task| pace_at(pool.sizes, task))
 }
 
 pub fn tasks_sound(pool: Pool<'_>) -> bool
