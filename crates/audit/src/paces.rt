@@ -88,21 +88,21 @@ fn pace_at(sizes: Sizes, task: Task) -> bool
     ensures { result ≡ pace_at sizes.n task.stage task }
 {
     let cells = sizes.n;
-    let cell = task.hand.cell;
+    let reached = task.hand.cell;
     match task.stage {
         Stage::Idle => task == Task::idle(),
         Stage::TakeNew | Stage::Exchange => task.steps == 0,
         Stage::Read | Stage::TakeCopy => task.steps == 1,
         Stage::Append => task.steps == 2,
         Stage::Write => task.steps == 3,
-        Stage::FillNew => task.steps == cell + 1,
+        Stage::FillNew => task.steps == reached + 1,
         Stage::Getting(reading) => ends_within(cells, reading, task, get_most(cells)),
-        Stage::Copying(reading) => ends_within(cells, reading, task, next_most(cells, cell)),
-        Stage::FillCopy => task.steps <= next_most(cells, cell),
+        Stage::Copying(reading) => ends_within(cells, reading, task, next_most(cells, reached)),
+        Stage::FillCopy => task.steps <= next_most(cells, reached),
         Stage::Put => task.steps <= copy_most(cells, cells),
         Stage::Paging(reading) => {
-            task.cell <= cell
-                && ends_within(cells, reading, task, page_most(cells, task.cell, cell))
+            task.cell <= reached
+                && ends_within(cells, reading, task, page_most(cells, task.cell, reached))
         }
     }
 }
