@@ -1,9 +1,7 @@
 -- What each task at its stage has done, where the rules before tell the rest.
 -- Rests on Broken, Ways and Rules.
-use Rattle.std.specs.Prelude.{◌<◌, ◌≤◌, ℕ, Bool, true, List, ◌≡◌, refl, leb, ltb}
-use Rattle.std.proofs.Common.{◌∙◌, subst, arith}
-use Rattle.std.proofs.Math.Path.{ap}
-use borrow.Author.Tests.{le-leb, lt-ltb}
+use Rattle.std.specs.Prelude.{◌<◌, ◌≤◌, ℕ, Bool, true, List, ◌≡◌, refl}
+use Rattle.std.proofs.Common.{subst}
 use Rattle.rulebook.specs.declared.Sizes.{Sizes}
 use Rattle.rulebook.specs.declared.Stage.{Stage}
 use Rattle.rulebook.specs.declared.Task.{Task}
@@ -12,7 +10,7 @@ use Rattle.layout.specs.Pool.{view_of}
 use Rattle.layout.specs.Rows.{task_read}
 use Rattle.rulebook.specs.State.{names}
 use Rattle.rules.specs.Paced.{Paced, TaskRange}
-use Rattle.survey.specs.Holds.{on_cell, on_hand, task_holds}
+use Rattle.survey.specs.Holds.{task_holds}
 use Rattle.survey.specs.Logs.{Walkable, live_walkable}
 use Rattle.survey.specs.Rules.{Rule2, Rule3, Rule6, shown, task}
 use Rattle.survey.specs.Ways.{slot_as, task_as, version-here}
@@ -44,25 +42,6 @@ module _ (d : Sizes) (p : List ℕ) where
   pub record Stands (g : Stage) (k : Task) : Type 0 where
     pub ranged : Ranged k
     pub logs : names g ≡ true → Walkable d.n (block_part p d k.block)
-
-  module _ (k : Task) (s : Ranged k) where
-    -- ---- what the ranges tell
-
-    pub on_cell_lem : on_cell (shown d p) k ≡ true
-    unfolding view_of
-    on_cell_lem = lt-ltb k.cell d.n s.cell
-
-    pub on_hand_lem : on_hand (shown d p) k ≡ true
-    unfolding view_of
-    on_hand_lem = lt-ltb k.hand.cell d.n s.hand
-
-    pub some_cells_lem : ltb 0 (shown d p).sizes.n ≡ true
-    unfolding view_of
-    some_cells_lem = let z = s.cell in lt-ltb 0 d.n (omega arith)
-
-    pub until_in : leb k.until (shown d p).sizes.n ≡ true
-    unfolding view_of
-    until_in = le-leb k.until d.n s.until
 
   -- ---- the task
 
@@ -98,4 +77,4 @@ module _ (d : Sizes) (p : List ℕ) where
   unfolding view_of
   cells-of = refl
 
-pub ruleset facts = (task_as, version-here, on_cell_lem, on_hand_lem, some_cells_lem, until_in, cells-of, facts_stands)
+pub ruleset facts = (task_as, version-here, cells-of)

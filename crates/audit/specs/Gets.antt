@@ -1,6 +1,6 @@
 -- A task that reads: the log of its cell as the words show it, and what its words give.
 -- Rests on Broken, Logs and the block's reading.
-use Rattle.std.specs.Prelude.{◌<◌, ◌≤◌, ℕ, Bool, ◌&&◌, true, List, ◌≡◌, eqb, leb, ltb}
+use Rattle.std.specs.Prelude.{◌<◌, ℕ, Bool, ◌&&◌, true, List, ◌≡◌, eqb, leb, ltb}
 use Rattle.std.proofs.Common.{◌∙◌, arith}
 use Rattle.std.proofs.Math.Path.{ap, sym}
 use Rattle.std.proofs.Math.ListN.{length}
@@ -40,9 +40,6 @@ module _ (d : Sizes) (p : List ℕ) where
     pub logs : Walkable d.n (block_part p d k)
     pub cell : i < d.n
 
-  pub log-here : Spans d p → (k i : ℕ) → k < d.b → Walkable d.n (block_part p d k) → i < d.n → Log k i
-  log-here sp k i l r c = record { spans = sp; block = l; logs = r; cell = c }
-
   module _ (k i : ℕ) (g : Log k i) where
     long_as : length (log_in k i) ≡ length_of d.n (block_part p d k) i
     unfolding log_in
@@ -50,12 +47,6 @@ module _ (d : Sizes) (p : List ℕ) where
 
     pub log_length : (m : ℕ) → m ≡ length_of d.n (block_part p d k) i → m ≡ length (log_in k i)
     log_length m e = e ∙ sym long_as
-
-    pub log-within : (j : ℕ) → j < length (log_in k i) → j ≤ d.n
-    log-within j l = let y = long_as in let z = g.logs.short i g.cell in omega arith
-
-    pub hi_within : (m j : ℕ) → m ≡ length (log_in k i) → j < m → j ≤ d.n
-    hi_within m j e l = log-within j (omega arith)
 
     module _ (j : ℕ) (l : j < length (log_in k i)) (at : ℕ) (e : at ≡ stamp_in d.n (block_part p d k) i j) where
       in_log : j < length_of d.n (block_part p d k) i
@@ -71,10 +62,6 @@ module _ (d : Sizes) (p : List ℕ) where
           ap (λ (b : Block). version_at (log_at b i) j) (view_block_at d p k g.block) ∙ ap (λ (x : Entry). x.version) (entry_at_lem d.n (block_part p d k) i g.cell j in_log)
           ∙ sym (e ∙ seen_as)
 
-      pub older_is : (L : ℕ) → ltb at L ≡ older_in k i L j
-      unfolding older_in
-      older_is L = rw stamp_as
-
 -- ---- the get in hand
 
 module _ (d : Sizes) (p : List ℕ) (k : Task) (l : k.hand.cell < d.n) where
@@ -82,4 +69,4 @@ module _ (d : Sizes) (p : List ℕ) (k : Task) (l : k.hand.cell < d.n) where
   unfolding view_of
   on_hand = lt-ltb k.hand.cell d.n l
 
-pub ruleset gets = (log-here, log_length, log-within, older_is, stamp_as, on_hand)
+pub ruleset gets = (log_length, stamp_as, on_hand)

@@ -10,18 +10,16 @@ use Rattle.rulebook.specs.declared.Sizes.{Sizes}
 use Rattle.rulebook.specs.declared.Task.{Task}
 use Rattle.block.specs.Layout.{length_of}
 use Rattle.block.specs.Reads.{log-length_at}
-use Rattle.layout.specs.Places.{Spans, block_part}
+use Rattle.layout.specs.Places.{block_part}
 use Rattle.layout.specs.Pool.{view_of}
 use Rattle.layout.specs.View.{view_block_at, view_block-logs}
 use Rattle.rulebook.specs.State.{Block, block_at, log_at}
 use Rattle.theorems.specs.Terms.{all_to, version_at}
 use Rattle.survey.specs.Holds.{all_below, every_entry, to_write}
 use Rattle.survey.specs.Decide.{◌implies◌, some_to}
-use Rattle.survey.specs.Logs.{Walkable}
 use Rattle.survey.specs.Rules.{shown}
-use Rattle.survey.specs.Tally.{Counts}
 use Rattle.survey.specs.Ways.{version-here}
-use Rattle.audit.specs.Gets.{Log, log_in, older_in}
+use Rattle.audit.specs.Gets.{log_in, older_in}
 use Rattle.rulebook.specs.Tests.{by_test}
 
 -- ---- what is asked of the logs of block k
@@ -46,15 +44,9 @@ module _ (d : Sizes) (p : List ℕ) (k : ℕ) where
   cell_from v i = some_to (entry_from v i) (length (log_in d p k i))
 
   -- a log's length is the word of its cell
-  pub log-long : k < d.b → (i : ℕ) → i < d.n → length (log_in d p k i) ≡ length_of d.n (block_part p d k) i
+  pub log_long : k < d.b → (i : ℕ) → i < d.n → length (log_in d p k i) ≡ length_of d.n (block_part p d k) i
   unfolding log_in
-  log-long b i l = ap (λ (x : Block). length (log_at x i)) (view_block_at d p k b) ∙ log-length_at d.n (block_part p d k) i l
-
-  pub counts_of : Spans d p → k < d.b → Walkable d.n (block_part p d k) → Counts d p k
-  counts_of sp b r = record { spans = sp; below = b; logs = r }
-
-  pub counts-log : Counts d p k → (i : ℕ) → i < d.n → Log d p k i
-  counts-log s i l = record { spans = s.spans; block = s.below; logs = s.logs; cell = l }
+  log_long b i l = ap (λ (x : Block). length (log_at x i)) (view_block_at d p k b) ∙ log-length_at d.n (block_part p d k) i l
 
 -- ---- every log
 
@@ -122,8 +114,4 @@ module _ (d : Sizes) (p : List ℕ) where
   unfolding to_write cell_from entry_from log_in
   write-is k b = rw (others-all d p k.block b k.cell k.number, from-below d p k.block k.number k.cell, cells-of)
 
-pub ruleset empties = (log-long)
-
-pub ruleset logs = (log-long, counts-log)
-
-pub ruleset dones = (cells-of, target-low, version-here, below_all, write-is, counts_of)
+pub ruleset dones = (cells-of, target-low, version-here, below_all, write-is)

@@ -4,7 +4,7 @@ use Rattle.std.specs.Prelude.{◌*◌, ◌+◌, ◌-◌, ◌/◌, ◌<◌, ◌^�
 use Rattle.std.proofs.Common.{true≢false, ◌∙◌, ap, subst, sym, pow-suc, pow_pos}
 use Rattle.std.proofs.Math.Path.{◌≡◌, refl}
 use native.Mathlib.Omega.{arith}
-use Rattle.std.proofs.lemmas.Nat.{leading_le, leading_length}
+use Rattle.std.proofs.lemmas.Nat.{leading_length}
 use Rattle.std.specs.Int.Count.{count_leading_zeros}
 use borrow.Author.Tests.{le-leb, lt-ltb}
 use Rattle.rulebook.specs.declared.Sizes.{Sizes}
@@ -47,8 +47,6 @@ digits_as m h =
     let e : 32 - count_leading_zeros 32 m ≡ s.0 = omega (arith, s.1) in
     e ∙ sym (digits_width s.0 m s.2 s.3)
 
-pub ruleset lefts = (digits_as, leading_le)
-
 -- ---- the most steps
 
 module _ (n : ℕ) (few : n ≤ most_cells) (g : ℕ) where
@@ -63,19 +61,13 @@ module _ (n : ℕ) (few : n ≤ most_cells) (g : ℕ) where
       product : c * (4 + g) ≤ 69632
       product = let z = digits-fewer in product-few c (4 + g) (omega arith) (omega arith)
 
-      pub product-fits : c * (4 + g) < 4294967296
-      product-fits = let z = product in omega arith
-
-      pub sum_fits : 2 + c * (4 + g) < 4294967296
-      sum_fits = let z = product in omega arith
-
       pub most-copy : 2 + c * (4 + g) ≤ 69634
       most-copy = let z = product in omega arith
 
   pub page-fits : (a b : ℕ) → b < n → g ≤ 16 → (b - a + 1) * g < 4294967296
   page-fits a b l s = let z = product-few (b - a + 1) g (omega arith) (omega arith) in omega arith
 
-pub ruleset mosts = (most-get, product-fits, sum_fits, most-copy, page-fits)
+pub ruleset mosts = (most-get, most-copy, page-fits)
 
 -- ---- stage by stage
 
@@ -117,8 +109,6 @@ idle-is d k x s e z r h =
       no = λ t f. true≢false (sym (h.1 (subst (λ (g : Stage). Pace d.n g k) e f.pace ∙ sym z)) ∙ t);
     }) (range_decides d k)
     ∙ sym (pace-left d k s)
-
-pub ruleset paces = (idle-is)
 
 -- ---- a row
 
@@ -184,4 +174,4 @@ module _ (d : Sizes) (p : List ℕ) (t : ℕ) (y : Result Task Damaged) (e : y �
           row_reads d (task_part p d t) (sym (code_test (task_part p d t)) ∙ a)
           (range-fits d (task_read (task_part p d t)) sp.cells (subst (TaskRange d) (view_task_at d p t l) ((range_decides d (task d p t)).yes b)))
 
-pub ruleset rows = (row-ranged, row-sound, row-bad)
+pub ruleset rows = (row-sound, row-bad)

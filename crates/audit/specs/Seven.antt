@@ -106,7 +106,5 @@ pub ruleset slots = (slot_row-sound, slot-bad-sound)
 
 -- ---- blocks
 
-pub laid-is : (n : ℕ) (w : List ℕ) (r : Bool) → Decides r (Laid n w) → r ≡ laid_in n w
-laid-is n w r f = same r (laid_in n w) f (laid_decides n w)
-
-pub ruleset laids = (laid-is)
+pub laid_is : (n : ℕ) (w : List ℕ) (r : Bool) → Decides r (Laid n w) → r ≡ laid_in n w
+laid_is n w r f = same r (laid_in n w) f (laid_decides n w)

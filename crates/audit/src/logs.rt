@@ -8,7 +8,7 @@ use survey::all_below;
 
 // The entry is older than the number.
 #[tactic(auto, unfolding(crate::specs::Gets::older_in), using(crate::specs::Gets::gets))]
-pub fn is_older(pool: Pool<'_>, block: u32, cell: u32, number: u32, index: u32) -> bool
+fn is_older(pool: Pool<'_>, block: u32, cell: u32, number: u32, index: u32) -> bool
     requires log { Log pool.sizes pool.words.now block cell }
     requires there { index < length (log_in pool.sizes pool.words.now block cell) }
     ensures { result ≡ older_in pool.entry.sizes pool.entry.words.now block cell number index }

@@ -18,7 +18,7 @@ use survey::tally::entries_of;
 // ---- a block that is filled
 
 // The cell's log is empty.
-#[tactic(auto, unfolding(crate::specs::LogsDone::empty_at), using(crate::specs::LogsDone::empties))]
+#[tactic(auto, unfolding(crate::specs::LogsDone::empty_at), using(crate::specs::LogsDone::log_long))]
 fn is_empty(pool: Pool<'_>, block: u32, cell: u32) -> bool
     requires block { block < pool.sizes.b }
     requires cell { cell < pool.sizes.n }
@@ -49,7 +49,7 @@ pub fn fills_to(pool: Pool<'_>, cells: u32, task: Task) -> bool
 // ---- the versions in a block that can be read
 
 // Those in the cell's log are below the number.
-#[tactic(auto, unfolding(crate::specs::LogsDone::cell_below), using(crate::specs::LogsDone::logs))]
+#[tactic(auto, unfolding(crate::specs::LogsDone::cell_below), using(crate::specs::LogsDone::log_long))]
 fn cell_below(pool: Pool<'_>, block: u32, number: u32, cell: u32) -> bool
     requires counts { Counts pool.sizes pool.words.now block }
     requires cell { cell < pool.sizes.n }

@@ -15,7 +15,7 @@ use survey::all_below;
 // ---- a get in hand
 
 // How many binary digits the number has.
-#[tactic(auto, using(crate::specs::Paces::lefts))]
+#[tactic(auto, using(crate::specs::Paces::digits_as))]
 fn digits_of(number: u32) -> u32
     ensures { (result ≡ digits number) × (result ≤ 32) }
 {
@@ -82,27 +82,27 @@ fn page_most(cells: u32, from: u32, to: u32) -> u32
 // ---- every task
 
 // The steps are those of the stage, of a task in its ranges.
-#[tactic(auto, unfolding(crate::specs::Paces::pace_at), using(crate::specs::Paces::paces))]
+#[tactic(auto, unfolding(crate::specs::Paces::pace_at))]
 fn pace_at(sizes: Sizes, task: Task) -> bool
     requires { (sizes.n ≤ most_cells) × Ranged sizes task }
     ensures { result ≡ pace_at sizes.n task.stage task }
 {
     let cells = sizes.n;
-    let cell = task.hand.cell;
+    let reached = task.hand.cell;
     match task.stage {
         Stage::Idle => task == Task::idle(),
         Stage::TakeNew | Stage::Exchange => task.steps == 0,
         Stage::Read | Stage::TakeCopy => task.steps == 1,
         Stage::Append => task.steps == 2,
         Stage::Write => task.steps == 3,
-        Stage::FillNew => task.steps == cell + 1,
+        Stage::FillNew => task.steps == reached + 1,
         Stage::Getting(reading) => ends_within(cells, reading, task, get_most(cells)),
-        Stage::Copying(reading) => ends_within(cells, reading, task, next_most(cells, cell)),
-        Stage::FillCopy => task.steps <= next_most(cells, cell),
+        Stage::Copying(reading) => ends_within(cells, reading, task, next_most(cells, reached)),
+        Stage::FillCopy => task.steps <= next_most(cells, reached),
         Stage::Put => task.steps <= copy_most(cells, cells),
         Stage::Paging(reading) => {
-            task.cell <= cell
-                && ends_within(cells, reading, task, page_most(cells, task.cell, cell))
+            task.cell <= reached
+                && ends_within(cells, reading, task, page_most(cells, task.cell, reached))
         }
     }
 }
@@ -113,10 +113,8 @@ fn task_sound(pool: Pool<'_>, index: u32) -> bool
     requires { index < pool.sizes.t }
     ensures { result ≡ task_sound pool.entry.sizes pool.entry.words.now index }
 {
-    match pool.ranged_task(index) {
-        Ok(task) => pace_at(pool.sizes, task),
-        Err(_) => false,
-    }
+    pool.ranged_task(index)
+        .is_ok_and(move |task| pace_at(pool.sizes, task))
 }
 
 pub fn tasks_sound(pool: Pool<'_>) -> bool
