@@ -1,5 +1,5 @@
 // What stands in a block.
-use super::answer::{Refused, asked};
+use client::{Answer, Refused, asked};
 use std::fmt;
 
 // An entry of a cell's log.
@@ -43,7 +43,7 @@ impl fmt::Display for Block {
 }
 
 // The first word that a look answers.
-fn number<F: FnOnce(&mut [u32]) -> u32>(look: F) -> Result<u32, Refused>
+fn number<F: FnOnce(&mut Answer) -> u32>(look: F) -> Result<u32, Refused>
     requires { F.IsAlwaysCallable look }
 {
     let [number, ..] = asked(look)?;

@@ -1,11 +1,10 @@
 // Document 01's sessions and edges through the C functions, printed.
 #![tactic(auto)]
 
-mod answer;
 mod looks;
 mod tasks;
 
-use answer::{Answer, Refused, asked};
+use client::{Answer, Refused, asked};
 use looks::block_of;
 use std::io;
 use tasks::{finish, get, new, page, set};

@@ -1,63 +1,29 @@
 // One task at a time, from its start to its end, printed.
-use super::answer::{Answer, Refused, asked};
+use client::{Answer, Said, asked};
 use std::{fmt, io};
 
 // More steps than any task here takes.
 const MOST_STEPS: u32 = 100;
 
-// What a task has come to.
-#[derive(Clone, Copy, Debug)]
-enum Outcome {
-    // a new handle
-    Made(u32),
-    // a cell's value
-    Read(u32),
-}
-
-impl fmt::Display for Outcome {
-    fn fmt<W: fmt::Write>(&self, f: &mut fmt::Formatter<W>) -> fmt::Result {
-        match self {
-            Outcome::Made(handle) => write!(f, "handle {handle}"),
-            Outcome::Read(value) => write!(f, "{value}"),
-        }
-    }
-}
-
-// The end of a task, and the steps to it.
-#[derive(Clone, Copy, Debug)]
-struct End {
-    outcome: Outcome,
-    steps: u32,
-}
-
-// The end that a step's answer tells of, if it was the last step.
-fn end_in(answer: Answer) -> Option<End> {
-    let [said, steps, handle, _, value, ..] = answer;
-    if said < 2 {
-        return None;
-    }
-    let outcome = if handle == 0 {
-        Outcome::Read(value)
-    } else {
-        Outcome::Made(handle)
-    };
-    Some(End { outcome, steps })
-}
-
 /// Steps a task to its end and prints what comes of it; the steps.
 pub fn finish(rt: &impl Print, pool: &mut [u32], task: u32) -> io::Result<u32> {
     for _ in 0..MOST_STEPS {
         match asked(|answer| winchclover::winch_step(pool, task, answer)) {
+            Ok(answer) => match Said::from(answer) {
+                Said::Nothing | Said::Handed { .. } => {}
+                Said::Made { steps, handle } => {
+                    println!(rt; "handle {handle}, {steps} steps")?;
+                    return Ok(steps);
+                }
+                Said::Read { steps, value, .. } => {
+                    println!(rt; "{value}, {steps} steps")?;
+                    return Ok(steps);
+                }
+            },
             Err(refused) => {
                 let steps = refused.steps;
                 println!(rt; "{refused} after {steps} steps")?;
                 return Ok(steps);
-            }
-            Ok(answer) => {
-                if let Some(End { outcome, steps }) = end_in(answer) {
-                    println!(rt; "{outcome}, {steps} steps")?;
-                    return Ok(steps);
-                }
             }
         }
     }
@@ -66,7 +32,7 @@ pub fn finish(rt: &impl Print, pool: &mut [u32], task: u32) -> io::Result<u32> {
 }
 
 // Prints what is asked for, starts it as task 0 and finishes it; the steps.
-fn run<F: FnOnce(&mut [u32], &mut [u32]) -> u32>(
+fn run<F: FnOnce(&mut [u32], &mut Answer) -> u32>(
     rt: &impl Print,
     pool: &mut [u32],
     wish: impl fmt::Display + Drop,
