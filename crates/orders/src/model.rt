@@ -1,5 +1,6 @@
 // The plain model: every live version has its whole table, and a set copies it.
 ghost use Rattle.std.specs.Prelude.{◌<◌, ◌≤◌};
+ghost use Rattle.orders.specs.declared.model.TheConstants.{MOST};
 
 /// The most tasks, slots and cells of the model.
 pub const MOST: usize = 16;
@@ -10,9 +11,9 @@ pub struct Sizes {
     pub cells: u32,
     pub handles: u32,
     pub tasks: u32,
-    pub ghost cells_fit: { cells ≤ 16 },
-    pub ghost handles_fit: { (0 < handles) × (handles ≤ 16) },
-    pub ghost tasks_fit: { (0 < tasks) × (tasks ≤ 16) },
+    pub ghost cells_fit: { cells ≤ MOST },
+    pub ghost handles_fit: { (0 < handles) × (handles ≤ MOST) },
+    pub ghost tasks_fit: { (0 < tasks) × (tasks ≤ MOST) },
 }
 
 /// Why a call is refused, with the numbers of the exported functions.
@@ -40,8 +41,8 @@ pub enum Order {
     New { value: u32 },
     Get { handle: u32, cell: u32 },
     Set { handle: u32, cell: u32, value: u32 },
-    /// Reads the cells from `cell` on, below `until`.
-    Page { handle: u32, cell: u32, until: u32 },
+    /// Reads so many cells from `cell` on.
+    Page { handle: u32, cell: u32, count: u32 },
 }
 
 impl Order {
@@ -65,7 +66,25 @@ impl Order {
         match self {
             Order::New { .. } => true,
             Order::Get { cell, .. } | Order::Set { cell, .. } => cell < cells,
-            Order::Page { cell, until, .. } => cell < until && until <= cells,
+            Order::Page { cell, count, .. } => {
+                0 < count && count <= cells && cell <= cells - count
+            }
+        }
+    }
+
+    /// What is left of a page that has handed out a cell, but its last.
+    pub fn rest(self) -> Option<Order> {
+        match self {
+            Order::Page {
+                handle,
+                cell,
+                count,
+            } if count > 1 => Some(Order::Page {
+                handle,
+                cell: cell.checked_add(1)?,
+                count: count - 1,
+            }),
+            _ => None,
         }
     }
 }
@@ -97,41 +116,50 @@ impl Model {
         }
     }
 
-    pub fn table(&self, handle: u32) -> Option<Table> {
+    fn table(&self, handle: u32) -> Option<Table> {
         let mut versions = self.versions.iter().flatten();
         let version = versions.find(|version| version.handle == handle)?;
         Some(version.table)
     }
 
-    pub fn value(&self, handle: u32, cell: u32) -> Option<u32> {
-        self.table(handle)?.get(cell as usize).copied()
+    /// The cell that an order reads next, and its value.
+    pub fn reading(&self, order: Order) -> Option<(u32, u32)> {
+        match order {
+            Order::Get { handle, cell } | Order::Page { handle, cell, .. } => {
+                let value = self.table(handle)?.get(cell as usize).copied()?;
+                Some((cell, value))
+            }
+            Order::New { .. } | Order::Set { .. } => None,
+        }
     }
 
-    /// A copy of the handle's table with one cell set.
-    pub fn changed(&self, handle: u32, cell: u32, value: u32) -> Option<Table> {
-        let mut table = self.table(handle)?;
-        let place = table.get_mut(cell as usize)?;
-        *place = value;
-        Some(table)
+    /// The table that an order makes: the value in every cell, or a copy with one cell set.
+    pub fn making(&self, order: Order) -> Option<Table> {
+        match order {
+            Order::New { value } => Some([value; MOST]),
+            Order::Set {
+                handle,
+                cell,
+                value,
+            } => {
+                let mut table = self.table(handle)?;
+                *table.get_mut(cell as usize)? = value;
+                Some(table)
+            }
+            Order::Get { .. } | Order::Page { .. } => None,
+        }
     }
 
     // The slots that are live or reserved.
     fn slots_used(&self) -> usize {
         let live = self.versions.iter().flatten().count();
-        let reserved = self
-            .tasks
-            .iter()
-            .flatten()
-            .filter(|order| order.reserves())
-            .count();
-        live.saturating_add(reserved)
+        let orders = self.tasks.iter().flatten();
+        live.saturating_add(orders.filter(|order| order.reserves()).count())
     }
 
     fn is_in_use(&self, handle: u32) -> bool {
-        self.tasks
-            .iter()
-            .flatten()
-            .any(|order| order.handle() == Some(handle))
+        let mut orders = self.tasks.iter().flatten();
+        orders.any(|order| order.handle() == Some(handle))
     }
 
     fn is_live(&self, handle: u32) -> bool {
@@ -139,17 +167,15 @@ impl Model {
     }
 
     /// What the rule book's table says of a start.
-    pub fn start(&self, task: u32, order: Order) -> Result<(), Refusal> {
+    pub fn may_start(&self, task: u32, order: Order) -> Result<(), Refusal> {
         if task >= self.sizes.tasks {
             return Err(Refusal::NoTask);
         }
         if self.tasks[task as usize].is_some() {
             return Err(Refusal::TaskBusy);
         }
-        if let Some(handle) = order.handle() {
-            if !self.is_live(handle) {
-                return Err(Refusal::NoHandle);
-            }
+        if order.handle().is_some_and(|handle| !self.is_live(handle)) {
+            return Err(Refusal::NoHandle);
         }
         if !order.is_within(self.sizes.cells) {
             return Err(Refusal::NoCell);
@@ -161,7 +187,7 @@ impl Model {
     }
 
     /// What it says of a release.
-    pub fn release(&self, handle: u32) -> Result<(), Refusal> {
+    pub fn may_release(&self, handle: u32) -> Result<(), Refusal> {
         if !self.is_live(handle) {
             return Err(Refusal::NoHandle);
         }

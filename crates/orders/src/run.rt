@@ -1,8 +1,9 @@
 // One call on the store and the same on the model.
 ghost use Rattle.std.specs.Prelude.{◌<◌};
+ghost use Rattle.orders.specs.declared.model.TheConstants.{MOST};
 
 use super::draw::Drawn;
-use super::model::{MOST, Model, Order, Refusal, Sizes, Table, Version};
+use super::model::{MOST, Model, Order, Refusal, Sizes, Version};
 use super::tally::Tally;
 use client::{Answer, Refused, Said, asked};
 
@@ -38,16 +39,13 @@ impl<'a> Run<'a> {
             Order::Page {
                 handle,
                 cell,
-                until,
-            } => {
-                let count = until.saturating_sub(cell);
-                winchclover::winch_start_page(pool, task, handle, cell, count, answer)
-            }
+                count,
+            } => winchclover::winch_start_page(pool, task, handle, cell, count, answer),
         })
     }
 
     fn start(&mut self, task: u32, order: Order) {
-        let due = self.model.start(task, order);
+        let due = self.model.may_start(task, order);
         let answered = self.ask(task, order);
         self.tally.judge(answered, due);
         if answered.is_ok() {
@@ -57,8 +55,9 @@ impl<'a> Run<'a> {
         }
     }
 
-    // A new or a set has ended in this handle.
-    fn make(&mut self, handle: u32, table: Option<Table>) {
+    // A new or a set has ended in this handle, whose last eight bits are its slot.
+    fn make(&mut self, order: Order, handle: u32) {
+        let table = self.model.making(order);
         let slot = self.model.versions.get_mut((handle % 256) as usize);
         match (slot, table) {
             (Some(slot), Some(table)) => *slot = Some(Version { handle, table }),
@@ -66,92 +65,61 @@ impl<'a> Run<'a> {
         }
     }
 
-    // What an accepted step says; what the task is still to do.
+    fn read(&mut self, order: Order, cell: u32, value: u32) {
+        let due = self.model.reading(order);
+        self.tally.compare((cell, value), due);
+    }
+
+    // What an accepted step says; what is left to do of its task's order.
     fn hear(&mut self, order: Order, said: Said) -> Option<Order> {
-        match (order, said) {
-            (_, Said::Nothing) => Some(order),
-            (Order::New { value }, Said::Made { handle, .. }) => {
-                self.make(handle, Some([value; MOST]));
+        match said {
+            Said::Nothing => Some(order),
+            Said::Handed { cell, value } => {
+                self.read(order, cell, value);
+                order.rest()
+            }
+            Said::Read { cell, value, .. } => {
+                self.read(order, cell, value);
                 None
             }
-            (
-                Order::Set {
-                    handle,
-                    cell,
-                    value,
-                },
-                Said::Made { handle: new, .. },
-            ) => {
-                let table = self.model.changed(handle, cell, value);
-                self.make(new, table);
-                None
-            }
-            (
-                Order::Get { handle, cell } | Order::Page { handle, cell, .. },
-                Said::Read {
-                    cell: read,
-                    value,
-                    ..
-                },
-            ) => {
-                self.tally.expect(read == cell);
-                self.tally.compare(value, self.model.value(handle, cell));
-                None
-            }
-            (
-                Order::Page {
-                    handle,
-                    cell,
-                    until,
-                },
-                Said::Handed { cell: read, value },
-            ) => {
-                self.tally.expect(read == cell);
-                self.tally.compare(value, self.model.value(handle, cell));
-                Some(Order::Page {
-                    handle,
-                    cell: cell.saturating_add(1),
-                    until,
-                })
-            }
-            _ => {
-                self.tally.expect(false);
+            Said::Made { handle, .. } => {
+                self.make(order, handle);
                 None
             }
         }
     }
 
     fn step(&mut self, task: u32)
-        requires { task < 16 }
+        requires { task < MOST }
     {
         let answered = asked(|answer| winchclover::winch_step(self.pool, task, answer));
-        let Some(order) = self.model.tasks[task as usize] else {
+        let row = task as usize;
+        let Some(order) = self.model.tasks[row] else {
             self.tally.judge(answered, Err(Refusal::TaskIdle));
             return;
         };
         match answered {
             Ok(answer) => {
                 self.tally.judge(answered, Ok(()));
-                let left = self.hear(order, Said::from(answer));
-                if left.is_none() {
+                self.model.tasks[row] = self.hear(order, Said::from(answer));
+                if self.model.tasks[row].is_none() {
                     self.tally.count_ended();
                 }
-                self.model.tasks[task as usize] = left;
             }
             // The model knows no blocks: it takes the store's word that none was free.
-            Err(Refused { number: 10, .. }) if order.reserves() => {
+            Err(refused) if order.reserves() && refused.number == u32::from(Refusal::NoBlock) => {
                 self.tally.judge(answered, Err(Refusal::NoBlock));
-                self.model.tasks[task as usize] = None;
+                self.model.tasks[row] = None;
             }
             Err(_) => self.tally.judge(answered, Ok(())),
         }
     }
 
     fn release(&mut self, slot: u32)
-        requires { slot < 16 }
+        requires { slot < MOST }
     {
         let handle = self.handle(slot);
-        let due = self.model.release(handle);
+        let due = self.model.may_release(handle);
         let answered = asked(|answer| winchclover::winch_release(self.pool, handle, answer));
         self.tally.judge(answered, due);
         if due.is_ok() {
@@ -161,16 +129,13 @@ impl<'a> Run<'a> {
 
     // The slot's handle, or 0, which names none.
     fn handle(&self, slot: u32) -> u32
-        requires { slot < 16 }
+        requires { slot < MOST }
     {
-        match self.model.versions[slot as usize] {
-            Some(version) => version.handle,
-            None => 0,
-        }
+        self.model.versions[slot as usize].map_or(0, |version| version.handle)
     }
 
     // An order, now and then one that is refused.
-    fn order(&self, drawn: Drawn) -> Order {
+    fn draw(&self, drawn: Drawn) -> Order {
         let Sizes { cells, handles, .. } = self.model.sizes;
         let kind = drawn.next();
         let slot = kind.next();
@@ -190,7 +155,7 @@ impl<'a> Run<'a> {
             _ => Order::Page {
                 handle,
                 cell,
-                until: cell + last.below(6),
+                count: last.below(6),
             },
         }
     }
@@ -200,8 +165,8 @@ impl<'a> Run<'a> {
         let Sizes { handles, tasks, .. } = self.model.sizes;
         let next = drawn.next();
         match drawn.below(64) {
-            0 => self.start(tasks, self.order(next)),
-            1..24 => self.start(next.below(tasks), self.order(next)),
+            0 => self.start(tasks, self.draw(next)),
+            1..24 => self.start(next.below(tasks), self.draw(next)),
             24 => self.release(next.below(handles)),
             _ => self.step(next.below(tasks)),
         }

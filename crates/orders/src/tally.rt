@@ -22,7 +22,7 @@ impl Tally {
         count(&mut self.ended);
     }
 
-    /// What is one in the store should be so in the model.
+    /// The store and the model should be the same in this.
     pub fn expect(&mut self, same: bool) {
         if !same {
             count(&mut self.wrong);
@@ -41,10 +41,10 @@ impl Tally {
         }
     }
 
-    /// A value that was read beside the model's.
-    pub fn compare(&mut self, value: u32, due: Option<u32>) {
+    /// A cell and its value that were read beside the model's.
+    pub fn compare(&mut self, read: (u32, u32), due: Option<(u32, u32)>) {
         count(&mut self.compared);
-        self.expect(due == Some(value));
+        self.expect(due == Some(read));
     }
 }
 
