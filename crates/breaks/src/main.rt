@@ -9,6 +9,7 @@ mod kept;
 use client::asked;
 use kept::{POOL_WORDS, Words, kept};
 use std::io;
+use winchclover::winch_check;
 
 // Where the words of a store of 2 cells, 4 handles and 2 tasks lie.
 const SLOT_0: usize = 16;
@@ -47,7 +48,7 @@ struct Case<'a> {
 }
 
 fn verdict(rt: &impl Print, words: &Words) -> io::Result<()> {
-    match asked(|answer| winchclover::winch_check(words, answer)) {
+    match asked(|answer| winch_check(words, answer)) {
         Ok(answer) => {
             let [broken, ..] = answer;
             println!(rt; " the check answers {broken}")

@@ -11,6 +11,7 @@ use draw::Drawn;
 use model::Sizes;
 use run::Run;
 use std::io;
+use winchclover::winch_open;
 
 // The calls of one run.
 const ROUNDS: u32 = 20000;
@@ -21,7 +22,7 @@ fn orders(rt: &impl Print, pool: &mut [u32], sizes: Sizes, seed: u32) -> io::Res
         handles,
         tasks,
     } = sizes;
-    let opened = asked(|answer| winchclover::winch_open(pool, cells, handles, tasks, answer));
+    let opened = asked(|answer| winch_open(pool, cells, handles, tasks, answer));
     let (blocks, refused) = match opened {
         Ok(answer) => (answer[0], 0),
         Err(refused) => (0, refused.number),

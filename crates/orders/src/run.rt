@@ -6,6 +6,9 @@ use super::draw::Drawn;
 use super::model::{MOST, Model, Order, Refusal, Sizes, Version};
 use super::tally::Tally;
 use client::{Answer, Refused, Said, asked};
+use winchclover::{
+    winch_release, winch_start_get, winch_start_new, winch_start_page, winch_start_set, winch_step,
+};
 
 /// A store, the model beside it, and what was seen of both.
 #[derive(Drop)]
@@ -25,22 +28,19 @@ impl<'a> Run<'a> {
     }
 
     fn ask(&mut self, task: u32, order: Order) -> Result<Answer, Refused> {
-        let pool = &mut *self.pool;
         asked(|answer| match order {
-            Order::New { value } => winchclover::winch_start_new(pool, task, value, answer),
-            Order::Get { handle, cell } => {
-                winchclover::winch_start_get(pool, task, handle, cell, answer)
-            }
+            Order::New { value } => winch_start_new(self.pool, task, value, answer),
+            Order::Get { handle, cell } => winch_start_get(self.pool, task, handle, cell, answer),
             Order::Set {
                 handle,
                 cell,
                 value,
-            } => winchclover::winch_start_set(pool, task, handle, cell, value, answer),
+            } => winch_start_set(self.pool, task, handle, cell, value, answer),
             Order::Page {
                 handle,
                 cell,
                 count,
-            } => winchclover::winch_start_page(pool, task, handle, cell, count, answer),
+            } => winch_start_page(self.pool, task, handle, cell, count, answer),
         })
     }
 
@@ -92,7 +92,7 @@ impl<'a> Run<'a> {
     fn step(&mut self, task: u32)
         requires { task < MOST }
     {
-        let answered = asked(|answer| winchclover::winch_step(self.pool, task, answer));
+        let answered = asked(|answer| winch_step(self.pool, task, answer));
         let row = task as usize;
         let Some(order) = self.model.tasks[row] else {
             self.tally.judge(answered, Err(Refusal::TaskIdle));
@@ -120,7 +120,7 @@ impl<'a> Run<'a> {
     {
         let handle = self.handle(slot);
         let due = self.model.may_release(handle);
-        let answered = asked(|answer| winchclover::winch_release(self.pool, handle, answer));
+        let answered = asked(|answer| winch_release(self.pool, handle, answer));
         self.tally.judge(answered, due);
         if due.is_ok() {
             self.model.versions[slot as usize] = None;

@@ -63,6 +63,7 @@ impl fmt::Display for Tally {
         )?;
         write!(f, "  refused")?;
         let mut separator = "";
+        // The numbers of `Refusal`.
         for number in 4..12usize {
             let count = refused[number];
             write!(f, "{separator} {number}: {count}")?;

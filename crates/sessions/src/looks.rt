@@ -1,6 +1,7 @@
 // What stands in a block.
 use client::{Answer, Refused, asked};
 use std::fmt;
+use winchclover::{winch_look_cell, winch_look_entry, winch_look_log, winch_look_version};
 
 // An entry of a cell's log.
 #[derive(Clone, Copy, Debug)]
@@ -51,15 +52,13 @@ fn number<F: FnOnce(&mut Answer) -> u32>(look: F) -> Result<u32, Refused>
 }
 
 fn oldest(pool: &[u32], block: u32, cell: u32) -> Result<Entry, Refused> {
-    let [version, old, ..] = asked(|answer| winchclover::winch_look_entry(
-        pool, block, cell, 0, answer,
-    ))?;
+    let [version, old, ..] = asked(|answer| winch_look_entry(pool, block, cell, 0, answer))?;
     Ok(Entry { version, old })
 }
 
 fn cell_of(pool: &[u32], block: u32, cell: u32) -> Result<Cell, Refused> {
-    let value = number(|answer| winchclover::winch_look_cell(pool, block, cell, answer))?;
-    let length = number(|answer| winchclover::winch_look_log(pool, block, cell, answer))?;
+    let value = number(|answer| winch_look_cell(pool, block, cell, answer))?;
+    let length = number(|answer| winch_look_log(pool, block, cell, answer))?;
     let oldest = if length == 0 {
         None
     } else {
@@ -73,7 +72,7 @@ fn cell_of(pool: &[u32], block: u32, cell: u32) -> Result<Cell, Refused> {
 }
 
 pub fn block_of(pool: &[u32], block: u32) -> Result<Block, Refused> {
-    let version = number(|answer| winchclover::winch_look_version(pool, block, answer))?;
+    let version = number(|answer| winch_look_version(pool, block, answer))?;
     let cells = [cell_of(pool, block, 0)?, cell_of(pool, block, 1)?];
     Ok(Block { version, cells })
 }

@@ -4,14 +4,17 @@
 mod looks;
 mod tasks;
 
-use client::{Answer, Refused, asked};
+use client::{Answer, asked};
 use looks::block_of;
 use std::io;
 use tasks::{finish, get, new, page, set};
+use winchclover::{winch_open, winch_release, winch_start_get, winch_start_set, winch_step};
 
-// Whether a call was accepted, in words.
-fn verdict(rt: &impl Print, call: Result<Answer, Refused>) -> io::Result<()> {
-    match call {
+// Makes a call and prints whether it was accepted.
+fn verdict<F: FnOnce(&mut Answer) -> u32>(rt: &impl Print, call: F) -> io::Result<()>
+    requires { F.IsAlwaysCallable call }
+{
+    match asked(call) {
         Ok(_) => print!(rt; "accepted"),
         Err(refused) => print!(rt; "{refused}"),
     }
@@ -19,7 +22,7 @@ fn verdict(rt: &impl Print, call: Result<Answer, Refused>) -> io::Result<()> {
 
 fn open(rt: &impl Print, pool: &mut [u32], cells: u32, handles: u32, tasks: u32) -> io::Result<()> {
     print!(rt; "open a pool of {} words, N = {cells}: ", pool.len())?;
-    match asked(|answer| winchclover::winch_open(pool, cells, handles, tasks, answer)) {
+    match asked(|answer| winch_open(pool, cells, handles, tasks, answer)) {
         Ok(answer) => {
             let [blocks, ..] = answer;
             println!(rt; "B = {blocks}")
@@ -30,10 +33,7 @@ fn open(rt: &impl Print, pool: &mut [u32], cells: u32, handles: u32, tasks: u32)
 
 fn release(rt: &impl Print, pool: &mut [u32], handle: u32) -> io::Result<()> {
     print!(rt; "release {handle}: ")?;
-    verdict(
-        rt,
-        asked(|answer| winchclover::winch_release(pool, handle, answer)),
-    )?;
+    verdict(rt, |answer| winch_release(pool, handle, answer))?;
     println!(rt; "")
 }
 
@@ -91,17 +91,11 @@ fn tenth(rt: &impl Print, pool: &mut [u32]) -> io::Result<()> {
     open(rt, pool, 2, 4, 2)?;
     new(rt, pool, 7)?;
     print!(rt; "get 256 cell 0 takes one step: ")?;
-    verdict(
-        rt,
-        asked(|answer| winchclover::winch_start_get(pool, 0, 256, 0, answer)),
-    )?;
+    verdict(rt, |answer| winch_start_get(pool, 0, 256, 0, answer))?;
     print!(rt; ", ")?;
-    verdict(rt, asked(|answer| winchclover::winch_step(pool, 0, answer)))?;
+    verdict(rt, |answer| winch_step(pool, 0, answer))?;
     print!(rt; "\nset 256 cell 0 to 9: ")?;
-    verdict(
-        rt,
-        asked(|answer| winchclover::winch_start_set(pool, 1, 256, 0, 9, answer)),
-    )?;
+    verdict(rt, |answer| winch_start_set(pool, 1, 256, 0, 9, answer))?;
     print!(rt; ", ")?;
     finish(rt, pool, 1)?;
     print!(rt; "get 256 cell 0 goes on: ")?;

@@ -1,6 +1,9 @@
 // One task at a time, from its start to its end, printed.
 use client::{Answer, Said, asked};
 use std::{fmt, io};
+use winchclover::{
+    winch_start_get, winch_start_new, winch_start_page, winch_start_set, winch_step,
+};
 
 // More steps than any task here takes.
 const MOST_STEPS: u32 = 100;
@@ -8,7 +11,7 @@ const MOST_STEPS: u32 = 100;
 /// Steps a task to its end and prints what comes of it; the steps.
 pub fn finish(rt: &impl Print, pool: &mut [u32], task: u32) -> io::Result<u32> {
     for _ in 0..MOST_STEPS {
-        match asked(|answer| winchclover::winch_step(pool, task, answer)) {
+        match asked(|answer| winch_step(pool, task, answer)) {
             Ok(answer) => match Said::from(answer) {
                 Said::Nothing | Said::Handed { .. } => {}
                 Said::Made { steps, handle } => {
@@ -53,14 +56,14 @@ fn run<F: FnOnce(&mut [u32], &mut Answer) -> u32>(
 pub fn new(rt: &impl Print, pool: &mut [u32], value: u32) -> io::Result<u32> {
     let wish = format_args!("new {value}");
     run(rt, pool, wish, |pool, answer| {
-        winchclover::winch_start_new(pool, 0, value, answer)
+        winch_start_new(pool, 0, value, answer)
     })
 }
 
 pub fn get(rt: &impl Print, pool: &mut [u32], handle: u32, cell: u32) -> io::Result<u32> {
     let wish = format_args!("get {handle} cell {cell}");
     run(rt, pool, wish, |pool, answer| {
-        winchclover::winch_start_get(pool, 0, handle, cell, answer)
+        winch_start_get(pool, 0, handle, cell, answer)
     })
 }
 
@@ -73,7 +76,7 @@ pub fn set(
 ) -> io::Result<u32> {
     let wish = format_args!("set {handle} cell {cell} to {value}");
     run(rt, pool, wish, |pool, answer| {
-        winchclover::winch_start_set(pool, 0, handle, cell, value, answer)
+        winch_start_set(pool, 0, handle, cell, value, answer)
     })
 }
 
@@ -86,6 +89,6 @@ pub fn page(
 ) -> io::Result<u32> {
     let wish = format_args!("page of {handle} from {from} count {count}");
     run(rt, pool, wish, |pool, answer| {
-        winchclover::winch_start_page(pool, 0, handle, from, count, answer)
+        winch_start_page(pool, 0, handle, from, count, answer)
     })
 }
