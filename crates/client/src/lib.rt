@@ -1,7 +1,8 @@
 // The exported functions as the programs call them: a call answers a `Result`, and a step says by an enum what it did.
 #![tactic(auto)]
 
-ghost use Rattle.std.specs.Prelude.{ℕ, ◌≡◌};
+ghost use Rattle.std.specs.Prelude.{ℕ, ◌≡◌, ◌++◌, Some, codes};
+ghost use Rattle.std.specs.Fmt.{decimal};
 ghost use Rattle.std.specs.Fn.{FnOnceReturnsAtMut};
 ghost use Rattle.client.specs.Answers.{no_words, answer_of, said_in};
 
@@ -18,6 +19,8 @@ pub struct Refused {
 }
 
 impl fmt::Display for Refused {
+    ghost output = { λ refused. Some (codes "refused " ++ decimal refused.number) };
+
     fn fmt<W: fmt::Write>(&self, f: &mut fmt::Formatter<W>) -> fmt::Result {
         let number = self.number;
         write!(f, "refused {number}")
