@@ -1,127 +1,199 @@
 // The plain model: every live version has its whole table, and a set copies it.
+ghost use Rattle.std.specs.Prelude.{◌<◌, ◌≤◌};
+ghost use Rattle.orders.specs.declared.model.TheConstants.{MOST};
 
-// The most slots of the model and the most cells of a table.
-pub const SLOTS: u32 = 16;
+/// The most tasks, slots and cells of the model.
+pub const MOST: usize = 16;
 
-pub const CELLS: u32 = 16;
+/// The sizes of a store that the model has room for.
+#[derive(Clone, Copy, Debug)]
+pub struct Sizes {
+    pub cells: u32,
+    pub handles: u32,
+    pub tasks: u32,
+    pub ghost cells_fit: { cells ≤ MOST },
+    pub ghost handles_fit: { (0 < handles) × (handles ≤ MOST) },
+    pub ghost tasks_fit: { (0 < tasks) × (tasks ≤ MOST) },
+}
 
-pub const IDLE: u32 = 0;
+/// Why a call is refused, with the numbers of the exported functions.
+#[derive(Clone, Copy, Debug)]
+pub enum Refusal {
+    NoTask = 4,
+    TaskBusy = 5,
+    TaskIdle = 6,
+    NoHandle = 7,
+    NoCell = 8,
+    NoSlot = 9,
+    NoBlock = 10,
+    InUse = 11,
+}
 
-pub const NEW: u32 = 1;
+impl From<Refusal> for u32 {
+    fn from(refusal: Refusal) -> u32 {
+        refusal as u32
+    }
+}
 
-pub const GET: u32 = 2;
+/// What a task is to do.
+#[derive(Clone, Copy, Debug)]
+pub enum Order {
+    New { value: u32 },
+    Get { handle: u32, cell: u32 },
+    Set { handle: u32, cell: u32, value: u32 },
+    /// Reads so many cells from `cell` on.
+    Page { handle: u32, cell: u32, count: u32 },
+}
 
-pub const SET: u32 = 3;
+impl Order {
+    /// The handle that it names.
+    pub fn handle(self) -> Option<u32> {
+        match self {
+            Order::New { .. } => None,
+            Order::Get { handle, .. } | Order::Set { handle, .. } | Order::Page { handle, .. } => {
+                Some(handle)
+            }
+        }
+    }
 
-pub const PAGE: u32 = 4;
+    /// Whether it reserves a slot for a new handle.
+    pub fn reserves(self) -> bool {
+        matches!(self, Order::New { .. } | Order::Set { .. })
+    }
 
-#[derive(Clone, Copy)]
-pub struct Task {
-    pub operation: u32,
+    // Whether the cells that it names are among so many.
+    fn is_within(self, cells: u32) -> bool {
+        match self {
+            Order::New { .. } => true,
+            Order::Get { cell, .. } | Order::Set { cell, .. } => cell < cells,
+            Order::Page { cell, count, .. } => {
+                0 < count && count <= cells && cell <= cells - count
+            }
+        }
+    }
+
+    /// What is left of a page that has handed out a cell, but its last.
+    pub fn rest(self) -> Option<Order> {
+        match self {
+            Order::Page {
+                handle,
+                cell,
+                count,
+            } if count > 1 => Some(Order::Page {
+                handle,
+                cell: cell.checked_add(1)?,
+                count: count - 1,
+            }),
+            _ => None,
+        }
+    }
+}
+
+/// The values of a version's cells.
+pub type Table = [u32; MOST];
+
+/// A live version.
+#[derive(Clone, Copy, Debug)]
+pub struct Version {
     pub handle: u32,
-    pub cell: u32,
-    pub value: u32,
-    pub until: u32,
+    pub table: Table,
 }
 
-// A sum of small numbers.
-pub fn sum(a: u32, b: u32) -> u32 {
-    if a < 1000 {
-        if b < 1000 {
-            return a + b;
+/// What each task is to do, where it is busy, and the version of each slot, where it is live.
+#[derive(Clone, Copy, Debug)]
+pub struct Model {
+    pub sizes: Sizes,
+    pub tasks: [Option<Order>; MOST],
+    pub versions: [Option<Version>; MOST],
+}
+
+impl Model {
+    pub fn new(sizes: Sizes) -> Model {
+        Model {
+            sizes,
+            tasks: [None; MOST],
+            versions: [None; MOST],
         }
     }
-    0
-}
 
-pub fn at(a: &[u32], i: u64) -> u32 {
-    if i < a.len() as u64 { a[i as usize] } else { 0 }
-}
-
-pub fn put(a: &mut [u32], i: u64, v: u32) {
-    if i < a.len() as u64 {
-        a[i as usize] = v;
+    fn table(&self, handle: u32) -> Option<Table> {
+        let mut versions = self.versions.iter().flatten();
+        let version = versions.find(|version| version.handle == handle)?;
+        Some(version.table)
     }
-}
 
-// A task has five words.
-pub fn task_at(tasks: &[u32], t: u32) -> Task {
-    let s = 5 * (t % 16) as u64;
-    Task {
-        operation: at(tasks, s),
-        handle: at(tasks, s + 1),
-        cell: at(tasks, s + 2),
-        value: at(tasks, s + 3),
-        until: at(tasks, s + 4),
-    }
-}
-
-pub fn put_task(tasks: &mut [u32], t: u32, k: Task) {
-    let s = 5 * (t % 16) as u64;
-    put(tasks, s, k.operation);
-    put(tasks, s + 1, k.handle);
-    put(tasks, s + 2, k.cell);
-    put(tasks, s + 3, k.value);
-    put(tasks, s + 4, k.until);
-}
-
-// The handle's cell in the tables: 16 cells for each slot.
-fn place(handle: u32, cell: u32) -> u64 {
-    CELLS as u64 * (handle % 256) as u64 + cell as u64
-}
-
-pub fn value_of(tables: &[u32], handle: u32, cell: u32) -> u32 {
-    at(tables, place(handle, cell))
-}
-
-// A new table, every cell v.
-pub fn fill(tables: &mut [u32], handle: u32, v: u32) {
-    for i in 0..CELLS {
-        put(tables, place(handle, i), v);
-    }
-}
-
-// A copy of a whole table, with one cell set.
-pub fn copy(tables: &mut [u32], from: u32, to: u32, cell: u32, v: u32) {
-    for i in 0..CELLS {
-        let x = value_of(tables, from, i);
-        put(tables, place(to, i), x);
-    }
-    put(tables, place(to, cell), v);
-}
-
-fn is_reserver(k: Task) -> bool {
-    k.operation == NEW || k.operation == SET
-}
-
-// One more, where that is so.
-fn more(n: u32, so: bool) -> u32 {
-    if so {
-        if n < 1000 {
-            return n + 1;
+    /// The cell that an order reads next, and its value.
+    pub fn reading(&self, order: Order) -> Option<(u32, u32)> {
+        match order {
+            Order::Get { handle, cell } | Order::Page { handle, cell, .. } => {
+                let value = self.table(handle)?.get(cell as usize).copied()?;
+                Some((cell, value))
+            }
+            Order::New { .. } | Order::Set { .. } => None,
         }
     }
-    n
-}
 
-// How many slots are live or reserved.
-pub fn slots_used(tasks: &[u32], handles: &[u32]) -> u32 {
-    let mut n = 0u32;
-    for i in 0..SLOTS {
-        let k = task_at(tasks, i);
-        n = more(n, is_reserver(k));
-        n = more(n, at(handles, i as u64) != 0);
-    }
-    n
-}
-
-// A busy task names the handle.
-pub fn in_use(tasks: &[u32], handle: u32) -> bool {
-    for i in 0..SLOTS {
-        let k = task_at(tasks, i);
-        if k.operation >= GET && k.handle == handle {
-            return true;
+    /// The table that an order makes: the value in every cell, or a copy with one cell set.
+    pub fn making(&self, order: Order) -> Option<Table> {
+        match order {
+            Order::New { value } => Some([value; MOST]),
+            Order::Set {
+                handle,
+                cell,
+                value,
+            } => {
+                let mut table = self.table(handle)?;
+                *table.get_mut(cell as usize)? = value;
+                Some(table)
+            }
+            Order::Get { .. } | Order::Page { .. } => None,
         }
     }
-    false
+
+    // The slots that are live or reserved.
+    fn slots_used(&self) -> usize {
+        let live = self.versions.iter().flatten().count();
+        let orders = self.tasks.iter().flatten();
+        live.saturating_add(orders.filter(|order| order.reserves()).count())
+    }
+
+    fn is_in_use(&self, handle: u32) -> bool {
+        let mut orders = self.tasks.iter().flatten();
+        orders.any(|order| order.handle() == Some(handle))
+    }
+
+    fn is_live(&self, handle: u32) -> bool {
+        self.table(handle).is_some()
+    }
+
+    /// What the rule book's table says of a start.
+    pub fn may_start(&self, task: u32, order: Order) -> Result<(), Refusal> {
+        if task >= self.sizes.tasks {
+            return Err(Refusal::NoTask);
+        }
+        if self.tasks[task as usize].is_some() {
+            return Err(Refusal::TaskBusy);
+        }
+        if order.handle().is_some_and(|handle| !self.is_live(handle)) {
+            return Err(Refusal::NoHandle);
+        }
+        if !order.is_within(self.sizes.cells) {
+            return Err(Refusal::NoCell);
+        }
+        if order.reserves() && self.slots_used() >= self.sizes.handles as usize {
+            return Err(Refusal::NoSlot);
+        }
+        Ok(())
+    }
+
+    /// What it says of a release.
+    pub fn may_release(&self, handle: u32) -> Result<(), Refusal> {
+        if !self.is_live(handle) {
+            return Err(Refusal::NoHandle);
+        }
+        if self.is_in_use(handle) {
+            return Err(Refusal::InUse);
+        }
+        Ok(())
+    }
 }

@@ -1,37 +1,74 @@
-// What was seen: a count for each refusal number, and for what follows.
-use super::model::{at, put};
+// What was seen: how often, and how often the store and the model differed.
+use super::model::Refusal;
+use client::{Answer, Refused};
+use std::fmt;
 
-pub const COMPARED: u64 = 16;
+/// Counts of calls, of tasks that ended, of values compared, of differences, and of each refusal.
+#[derive(Clone, Copy, Debug, Default)]
+pub struct Tally {
+    calls: u32,
+    ended: u32,
+    compared: u32,
+    wrong: u32,
+    refused: [u32; 16],
+}
 
-pub const WRONG: u64 = 17;
+fn count(counter: &mut u32) {
+    *counter = counter.saturating_add(1);
+}
 
-pub const CALLS: u64 = 18;
+impl Tally {
+    pub fn count_ended(&mut self) {
+        count(&mut self.ended);
+    }
 
-pub const ENDED: u64 = 19;
+    /// The store and the model should be the same in this.
+    pub fn expect(&mut self, same: bool) {
+        if !same {
+            count(&mut self.wrong);
+        }
+    }
 
-pub fn count(tally: &mut [u32], i: u64) {
-    let n = at(tally, i);
-    if n < 1000000 {
-        put(tally, i, n + 1);
+    /// A call's answer beside the model's.
+    pub fn judge(&mut self, answered: Result<Answer, Refused>, due: Result<(), Refusal>) {
+        count(&mut self.calls);
+        let number = answered.err().map(|refused| refused.number);
+        self.expect(number == due.err().map(u32::from));
+        if let Some(number) = number {
+            if let Some(counter) = self.refused.get_mut(number as usize) {
+                count(counter);
+            }
+        }
+    }
+
+    /// A cell and its value that were read beside the model's.
+    pub fn compare(&mut self, read: (u32, u32), due: Option<(u32, u32)>) {
+        count(&mut self.compared);
+        self.expect(due == Some(read));
     }
 }
 
-pub fn count_if(tally: &mut [u32], i: u64, so: bool) {
-    if !so {
-        return;
+impl fmt::Display for Tally {
+    fn fmt<W: fmt::Write>(&self, f: &mut fmt::Formatter<W>) -> fmt::Result {
+        let Tally {
+            calls,
+            ended,
+            compared,
+            wrong,
+            refused,
+        } = *self;
+        writeln!(
+            f,
+            "  calls {calls}, tasks ended {ended}, values compared {compared}, wrong {wrong}"
+        )?;
+        write!(f, "  refused")?;
+        let mut separator = "";
+        // The numbers of `Refusal`.
+        for number in 4..12usize {
+            let count = refused[number];
+            write!(f, "{separator} {number}: {count}")?;
+            separator = ",";
+        }
+        Ok(())
     }
-    count(tally, i);
-}
-
-// A call's number beside the model's.
-pub fn judge(tally: &mut [u32], got: u32, expected: u32) {
-    count(tally, CALLS);
-    count_if(tally, WRONG, got != expected);
-    count_if(tally, got as u64, got != 0);
-}
-
-// A value that was read beside the model's.
-pub fn compare(tally: &mut [u32], got: u32, expected: u32) {
-    count(tally, COMPARED);
-    count_if(tally, WRONG, got != expected);
 }
