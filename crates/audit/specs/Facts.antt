@@ -11,9 +11,10 @@ use Rattle.layout.specs.Rows.{task_read}
 use Rattle.rulebook.specs.State.{names}
 use Rattle.rules.specs.Paced.{Paced, TaskRange}
 use Rattle.survey.specs.Holds.{task_holds}
-use Rattle.survey.specs.Logs.{Walkable, live_walkable}
+use Rattle.survey.specs.Logs.{Walkable}
+use Rattle.survey.proofs.LogRules.{live_walkable}
 use Rattle.survey.specs.Rules.{Rule2, Rule3, Rule6, shown, task}
-use Rattle.survey.specs.Ways.{slot_as, task_as, version-here}
+use Rattle.survey.proofs.Ways.{slot_as, task_as, version-here}
 
 module _ (d : Sizes) (p : List ℕ) where
   -- what the rules before tell: the logs of blocks with a live handle can be walked, tasks stand where they name one, and numbers are in their ranges

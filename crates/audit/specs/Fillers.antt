@@ -19,10 +19,10 @@ use Rattle.rulebook.specs.State.{Block, fills, log_at}
 use Rattle.rules.specs.Paced.{Paced, TaskRange}
 use Rattle.rules.specs.Rules.{Fills, TaskRule}
 use Rattle.survey.specs.Holds.{filling_in}
-use Rattle.survey.specs.Decide.{decide_as, decide_eq, same}
-use Rattle.survey.specs.DecideBlocks.{filling_decides}
+use Rattle.survey.proofs.Deciding.{decide_as, decide_eq, same}
+use Rattle.survey.proofs.DecideBlocks.{filling_decides}
 use Rattle.survey.specs.Rules.{shown, task}
-use Rattle.survey.specs.Ways.{task_as}
+use Rattle.survey.proofs.Ways.{task_as}
 use Rattle.rulebook.specs.declared.Stage.TheVariants as stage
 
 module _ (d : Sizes) (p : List ℕ) where

@@ -18,7 +18,7 @@ use Rattle.theorems.specs.Terms.{all_to, version_at}
 use Rattle.survey.specs.Holds.{all_below, every_entry, to_write}
 use Rattle.survey.specs.Decide.{◌implies◌, some_to}
 use Rattle.survey.specs.Rules.{shown}
-use Rattle.survey.specs.Ways.{version-here}
+use Rattle.survey.proofs.Ways.{version-here}
 use Rattle.audit.specs.Gets.{log_in, older_in}
 use Rattle.rulebook.specs.Tests.{by_test}
 

@@ -19,13 +19,13 @@ use Rattle.layout.specs.View.{view_task_at}
 use Rattle.rulebook.specs.Sizes.{most_cells}
 use Rattle.rulebook.specs.State.{idle}
 use Rattle.rulebook.specs.Tests.{by_test}
-use Rattle.survey.specs.Decide.{same}
+use Rattle.survey.proofs.Deciding.{same}
 use Rattle.rules.specs.Paced.{Pace, TaskRange, digits-few, product-few, steps-few}
 use Rattle.theorems.specs.Prices.Digits.{digits_half}
 use Rattle.theorems.specs.Terms.{digits, digits_in}
 use Rattle.survey.specs.Broken.{task_sound}
 use Rattle.survey.specs.Holds.{pace_holds, range_holds}
-use Rattle.survey.specs.DecideTasks.{range_decides}
+use Rattle.survey.proofs.DecideTasks.{range_decides}
 use Rattle.survey.specs.Rules.{task}
 use Rattle.rulebook.specs.declared.Stage.TheVariants as stage
 use Rattle.rulebook.specs.Codes.{damaged}

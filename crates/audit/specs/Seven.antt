@@ -21,11 +21,11 @@ use Rattle.rulebook.specs.Tests.{by_test}
 use Rattle.rules.specs.Paced.{Paced, SlotRange, TaskRange}
 use Rattle.survey.specs.Broken.{slot_sound}
 use Rattle.survey.specs.Holds.{laid_in, slot_holds}
-use Rattle.survey.specs.Decide.{same}
-use Rattle.survey.specs.DecideBlocks.{laid_decides}
-use Rattle.survey.specs.DecideTasks.{live_decides, slot_decides}
+use Rattle.survey.proofs.Deciding.{same}
+use Rattle.survey.proofs.DecideBlocks.{laid_decides}
+use Rattle.survey.proofs.DecideTasks.{live_decides, slot_decides}
 use Rattle.survey.specs.Rules.{Lives, Rule2, shown, slot}
-use Rattle.survey.specs.Ways.{slot_as, task_as, version-here}
+use Rattle.survey.proofs.Ways.{slot_as, task_as, version-here}
 use Rattle.rulebook.specs.declared.Status.TheVariants as status
 use Rattle.rulebook.specs.Codes.{damaged}
 use Rattle.rulebook.specs.declared.Damaged.{Damaged}

@@ -14,7 +14,7 @@ use rulebook::{LAST_SERIAL, Stage, Task};
 use survey::all_below;
 
 // The slot that the task has reserved can carry a handle more.
-#[tactic(auto, unfolding(rulebook::specs::Sizes::last_serial), using(survey::specs::Ways::slot_as))]
+#[tactic(auto, unfolding(rulebook::specs::Sizes::last_serial), using(survey::proofs::Ways::slot_as))]
 fn is_unspent(pool: Pool<'_>, task: Task) -> bool
     requires { Ranged pool.sizes pool.words.now task }
     ensures { result ≡ unspent (shown pool.entry.sizes pool.entry.words.now) task }

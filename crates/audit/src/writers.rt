@@ -9,7 +9,7 @@ use pool::Pool;
 use rulebook::Task;
 use survey::all_below;
 
-#[tactic(auto, unfolding(survey::specs::Broken::writer_apart), using(survey::specs::Ways::task_as))]
+#[tactic(auto, unfolding(survey::specs::Broken::writer_apart), using(survey::proofs::Ways::task_as))]
 fn writer_apart(pool: Pool<'_>, writer: Task, index: u32, other_index: u32) -> bool
     requires { other_index < pool.sizes.t }
     ensures { result ≡ writer_apart pool.entry.sizes pool.entry.words.now writer index other_index }
@@ -26,7 +26,7 @@ fn writer_alone(pool: Pool<'_>, writer: Task, index: u32) -> bool
     })
 }
 
-#[tactic(auto, unfolding(survey::specs::Broken::not_above), using(survey::specs::Ways::slot_as))]
+#[tactic(auto, unfolding(survey::specs::Broken::not_above), using(survey::proofs::Ways::slot_as))]
 fn not_above(pool: Pool<'_>, writer: Task, slot: u32) -> bool
     requires { slot < pool.sizes.h }
     ensures { result ≡ not_above pool.entry.sizes pool.entry.words.now writer slot }

@@ -181,10 +181,10 @@ pub fn release(pool: &mut PoolMut<'_>, handle: u32) -> Result<Told, Refusal>
     ensures words { (pool.new.words.now, reply_of result) ≡ applied_in pool.old.words.now pool.old.sizes (plan_release (sight pool.old.words.now pool.old.sizes) handle) }
     ensures same { IsSameLoan pool.old pool.new }
 {
-    let slot = live_slot(pool.as_pool(), handle)?;
+    let released = live_slot(pool.as_pool(), handle)?;
     if pool.as_pool().user(handle % SLOTS)?.is_some() {
         return Err(Refusal::InUse);
     }
-    pool.put_slot(handle % SLOTS, Slot::free(slot.serial));
+    pool.put_slot(handle % SLOTS, Slot::free(released.serial));
     Ok(Told::Quiet)
 }
