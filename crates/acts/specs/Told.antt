@@ -5,6 +5,8 @@ use Rattle.rulebook.specs.declared.Reply.{Reply}
 use Rattle.rulebook.specs.declared.Reply.TheVariants as reply
 use Rattle.acts.specs.declared.Refusal.{Refusal}
 use Rattle.acts.specs.declared.Refusal.TheVariants as refusal
+use Rattle.acts.specs.declared.Shown.{Shown}
+use Rattle.acts.specs.declared.Shown.TheVariants as shown
 use Rattle.acts.specs.declared.Told.{Told}
 use Rattle.acts.specs.declared.Told.TheVariants as told
 
@@ -29,11 +31,17 @@ told_as (told.Handed i v) = reply.Handed i v
 told_as (told.HandedLast steps i v) = reply.HandedLast steps i v
 told_as (told.Got steps i v) = reply.Got steps i v
 told_as (told.Made steps h) = reply.Made steps h
-told_as (told.Shown x) = reply.Shown x
-told_as (told.ShownEntry e) = reply.ShownEntry e
-told_as (told.ShownTask k) = reply.ShownTask k
-told_as (told.Reported handles blocks) = reply.Reported handles blocks
+
+abbrev pub shown_as : Shown → Reply
+shown_as (shown.Number x) = reply.Shown x
+shown_as (shown.Entry e) = reply.ShownEntry e
+shown_as (shown.Task k) = reply.ShownTask k
+shown_as (shown.Report handles blocks) = reply.Reported handles blocks
 
 abbrev pub reply_of : Result Told Refusal → Reply
 reply_of (Ok t) = told_as t
 reply_of (Err r) = refused_as r
+
+abbrev pub shown_of : Result Shown Refusal → Reply
+shown_of (Ok x) = shown_as x
+shown_of (Err r) = refused_as r

@@ -88,14 +88,17 @@ pub enum Told {
     Got { steps: u32, cell: u32, value: u32 },
     /// A new or a set ends, with the new handle's public number.
     Made { steps: u32, handle: u32 },
-    /// A look at V, a cell or a log's length.
-    Shown(u32),
-    /// A look at an entry.
-    ShownEntry(Entry),
-    /// A look at a task.
-    ShownTask(Task),
+}
+
+/// What an accepted look shows.
+#[derive(Clone, Copy, Debug, PartialEq, Eq)]
+pub enum Shown {
+    /// V, a cell or a log's length.
+    Number(u32),
+    Entry(Entry),
+    Task(Task),
     /// The live handles, and the blocks in use.
-    Reported { handles: u32, blocks: u32 },
+    Report { handles: u32, blocks: u32 },
 }
 
 /// Who reads a cell by the steps of a get.

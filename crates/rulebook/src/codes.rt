@@ -20,6 +20,7 @@ impl TryFrom<u32> for Stage {
     ghost try_from_gives = { λ c r. r ≡ stage_coded c };
 
     #[tactic(auto, unfolding(crate::specs::Codes::stage_coded, crate::specs::Codes::stage_from, crate::specs::Codes::is_code, crate::specs::Codes::stage_of, crate::specs::Codes::setting_from, crate::specs::Codes::making_from, crate::specs::Codes::reading_from, crate::specs::Codes::code_of))]
+    #[inline(always)]
     fn try_from(code: u32) -> Result<Stage, Damaged> {
         match code {
             0 => Ok(Stage::Idle),

@@ -1,9 +1,9 @@
 // What C reads of an answer: the refusal number, and the first 16 words of the answer slice.
 ghost use Rattle.std.specs.Prelude.{◌≡◌, ◌≤◌, ◌++◌, length, drop, replicate};
-ghost use Rattle.acts.specs.Told.{reply_of, told_as};
+ghost use Rattle.acts.specs.Told.{reply_of, shown_as, shown_of, told_as};
 ghost use Rattle.winchclover.specs.Answered.{listed, said_in, words_in};
 
-use acts::{Refusal, Told};
+use acts::{Refusal, Shown, Told};
 use rulebook::Task;
 
 // Eight numbers, and 0 in the rest of 16.
@@ -26,7 +26,7 @@ fn list(answer: &mut [u32], numbers: [u32; 8])
 #[tactic(auto, unfolding(crate::specs::Answered::words_in, rulebook::specs::State::list_to))]
 fn list_task(answer: &mut [u32], task: Task)
     requires { 16 ≤ length answer.old }
-    ensures { answer.new ≡ words_in answer.old (told_as (Told.ShownTask task)) }
+    ensures { answer.new ≡ words_in answer.old (shown_as (Shown.Task task)) }
 {
     let hand = task.hand;
     let found = if hand.found { 1 } else { 0 };
@@ -61,10 +61,20 @@ fn list_told(answer: &mut [u32], told: Told)
         ),
         Told::Got { steps, cell, value } => list(answer, [2, steps, 0, cell, value, 0, 0, 0]),
         Told::Made { steps, handle } => list(answer, [2, steps, handle, 0, 0, 0, 0, 0]),
-        Told::Shown(number) => list(answer, [number, 0, 0, 0, 0, 0, 0, 0]),
-        Told::ShownEntry(entry) => list(answer, [entry.version, entry.old, 0, 0, 0, 0, 0, 0]),
-        Told::ShownTask(task) => list_task(answer, task),
-        Told::Reported { handles, blocks } => list(answer, [handles, blocks, 0, 0, 0, 0, 0, 0]),
+    }
+}
+
+// The numbers of what is shown.
+#[tactic(auto, unfolding(crate::specs::Answered::words_in, rulebook::specs::State::list_to))]
+fn list_shown(answer: &mut [u32], shown: Shown)
+    requires { 16 ≤ length answer.old }
+    ensures { answer.new ≡ words_in answer.old (shown_as shown) }
+{
+    match shown {
+        Shown::Number(number) => list(answer, [number, 0, 0, 0, 0, 0, 0, 0]),
+        Shown::Entry(entry) => list(answer, [entry.version, entry.old, 0, 0, 0, 0, 0, 0]),
+        Shown::Task(task) => list_task(answer, task),
+        Shown::Report { handles, blocks } => list(answer, [handles, blocks, 0, 0, 0, 0, 0, 0]),
     }
 }
 
@@ -87,5 +97,20 @@ pub fn tell(answer: &mut [u32], told: Result<Told, Refusal>) -> u32
             answer[..16].fill(0);
             u32::from(refusal)
         }
+    }
+}
+
+/// The same of a look.
+#[tactic(auto, unfolding(crate::specs::Answered::said_in, crate::specs::Answered::words_in, rulebook::specs::State::list_to))]
+pub fn show(answer: &mut [u32], shown: Result<Shown, Refusal>) -> u32
+    requires { 16 ≤ length answer.old }
+    ensures { (answer.new, result) ≡ said_in answer.old (shown_of shown) }
+{
+    match shown {
+        Ok(shown) => {
+            list_shown(answer, shown);
+            0
+        }
+        Err(refusal) => tell(answer, Err(refusal)),
     }
 }

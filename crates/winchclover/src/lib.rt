@@ -10,8 +10,8 @@ ghost use Rattle.layout.specs.Calls.{start_new_in, start_get_in, start_set_in, s
 ghost use Rattle.rulebook.specs.declared.Reply.TheVariants as reply;
 ghost use Rattle.winchclover.specs.Answered.{answered_in, shown_in};
 
-use acts::Told;
-use answers::tell;
+use acts::Shown;
+use answers::{show, tell};
 
 // The least number of words of an answer slice.
 const ANSWER_WORDS: usize = 16;
@@ -113,7 +113,7 @@ pub fn winch_look_version(pool: &[u32], block: u32, answer: &mut [u32]) -> u32
     if answer.len() < ANSWER_WORDS {
         return 15;
     }
-    tell(answer, store::look_version(pool, block))
+    show(answer, store::look_version(pool, block))
 }
 
 #[tactic(auto, unfolding(crate::specs::Answered::shown_in))]
@@ -123,7 +123,7 @@ pub fn winch_look_cell(pool: &[u32], block: u32, cell: u32, answer: &mut [u32]) 
     if answer.len() < ANSWER_WORDS {
         return 15;
     }
-    tell(answer, store::look_cell(pool, block, cell))
+    show(answer, store::look_cell(pool, block, cell))
 }
 
 #[tactic(auto, unfolding(crate::specs::Answered::shown_in))]
@@ -133,7 +133,7 @@ pub fn winch_look_log(pool: &[u32], block: u32, cell: u32, answer: &mut [u32]) -
     if answer.len() < ANSWER_WORDS {
         return 15;
     }
-    tell(answer, store::look_log(pool, block, cell))
+    show(answer, store::look_log(pool, block, cell))
 }
 
 #[tactic(auto, unfolding(crate::specs::Answered::shown_in))]
@@ -143,7 +143,7 @@ pub fn winch_look_entry(pool: &[u32], block: u32, cell: u32, index: u32, answer:
     if answer.len() < ANSWER_WORDS {
         return 15;
     }
-    tell(answer, store::look_entry(pool, block, cell, index))
+    show(answer, store::look_entry(pool, block, cell, index))
 }
 
 #[tactic(auto, unfolding(crate::specs::Answered::shown_in))]
@@ -153,7 +153,7 @@ pub fn winch_look_task(pool: &[u32], task: u32, answer: &mut [u32]) -> u32
     if answer.len() < ANSWER_WORDS {
         return 15;
     }
-    tell(answer, store::look_task(pool, task))
+    show(answer, store::look_task(pool, task))
 }
 
 #[tactic(auto, unfolding(crate::specs::Answered::shown_in))]
@@ -163,7 +163,7 @@ pub fn winch_report(pool: &[u32], answer: &mut [u32]) -> u32
     if answer.len() < ANSWER_WORDS {
         return 15;
     }
-    tell(answer, store::report(pool))
+    show(answer, store::report(pool))
 }
 
 #[tactic(auto, unfolding(crate::specs::Answered::shown_in))]
@@ -173,7 +173,7 @@ pub fn winch_check(pool: &[u32], answer: &mut [u32]) -> u32
     if answer.len() < ANSWER_WORDS {
         return 15;
     }
-    tell(answer, Ok(Told::Shown(broken_number(pool))))
+    show(answer, Ok(Shown::Number(broken_number(pool))))
 }
 
 // The number of the first rule that the words break, 0 for none.

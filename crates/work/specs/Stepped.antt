@@ -5,6 +5,7 @@ use Rattle.rulebook.specs.Codes.{damaged}
 use Rattle.rulebook.specs.Sizes.{last_serial, public_number}
 use Rattle.rulebook.specs.State.{idle}
 use Rattle.rulebook.specs.declared.Damaged.{Damaged}
+use Rattle.rulebook.specs.declared.Reading.TheVariants as reading
 use Rattle.rulebook.specs.declared.Reply.{Reply}
 use Rattle.rulebook.specs.declared.Reply.TheVariants as reply
 use Rattle.rulebook.specs.declared.Sizes.{Sizes}
@@ -27,6 +28,11 @@ next_serial (Ok x) = if leb last_serial x.serial then Err damaged else Ok (x.ser
 -- a slot that carries a handle
 abbrev pub live_slot : ℕ → ℕ → ℕ → Slot
 live_slot serial block number = record { serial = serial; status = status.Live; block = block; number = number }
+
+-- where a task goes on that has taken its block
+abbrev pub taker_of : Stage → Stage
+taker_of stage.TakeNew = stage.FillNew
+taker_of _ = stage.Copying reading.Guess
 
 module _ (p : List ℕ) (d : Sizes) (t : ℕ) where
   -- task t with this step counted; its stage is told apart

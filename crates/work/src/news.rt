@@ -4,25 +4,39 @@ ghost use Rattle.acts.specs.Plans.{free_in};
 ghost use Rattle.acts.specs.StepPlans.{takes};
 ghost use Rattle.acts.specs.Told.{reply_of};
 ghost use Rattle.layout.specs.Pool.{applied_in, sight};
-ghost use Rattle.work.specs.Stepped.{step_at, task_up};
+ghost use Rattle.work.specs.Stepped.{step_at, taker_of, task_up};
 ghost use Rattle.pool.specs.Loans.{IsSameLoan};
 
 use super::row::{counted, finish, go_on, next_serial, rest};
 use acts::{Refusal, Told, after};
 use pool::PoolMut;
-use rulebook::{Hand, Slot, Stage};
+use rulebook::{Hand, Reading, Slot, Stage};
 
-/// Take a block and go on at the stage, or end: no block is free, and the slot is free again.
+// Where a task goes on that has taken its block.
+fn taker(stage: Stage) -> Stage
+    ensures { result ≡ taker_of stage }
+{
+    match stage {
+        Stage::TakeNew => Stage::FillNew,
+        _ => Stage::Copying(Reading::Guess),
+    }
+}
+
+/// Take a block and go on, or end: no block is free, and the slot is free again.
 #[tactic(auto, unfolding(acts::specs::StepPlans::takes, acts::specs::StepPlans::gives_up, layout::specs::Pool::sight), using(crate::proofs::Doing::doing))]
 pub fn step_take(pool: &mut PoolMut<'_>, task: u32, stage: Stage) -> Result<Told, Refusal>
     requires { task < pool.old.sizes.t }
-    ensures words { (pool.new.words.now, reply_of result) ≡ applied_in pool.old.words.now pool.old.sizes (takes (free_in (sight pool.old.words.now pool.old.sizes)) (sight pool.old.words.now pool.old.sizes) task (task_up pool.old.words.now pool.old.sizes task) stage) }
+    ensures words { (pool.new.words.now, reply_of result) ≡ applied_in pool.old.words.now pool.old.sizes (takes (free_in (sight pool.old.words.now pool.old.sizes)) (sight pool.old.words.now pool.old.sizes) task (task_up pool.old.words.now pool.old.sizes task) (taker_of stage)) }
     ensures same { IsSameLoan pool.old pool.new }
 {
     let row = counted(pool, task);
     if let Some(block) = pool.as_pool().free_block()? {
         pool.take(block)?;
-        return Ok(go_on(pool, task, row.moved(stage, Hand::of(0)).aimed(block)));
+        return Ok(go_on(
+            pool,
+            task,
+            row.moved(taker(stage), Hand::of(0)).aimed(block),
+        ));
     }
     let reserved = pool.as_pool().slot(row.fresh)?;
     pool.put_slot(row.fresh, Slot::free(reserved.serial));

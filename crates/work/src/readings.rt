@@ -1,16 +1,16 @@
 // The steps of a get: of a get itself, of a copy and of a page. Each reads one word of the block, and goes on or settles.
 ghost use Rattle.std.specs.Prelude.{Ok, ◌<◌, ◌≡◌};
 ghost use Rattle.rulebook.specs.declared.Progress.TheVariants as progress;
-ghost use Rattle.acts.specs.StepPlans.{goes_on, page_settles, stage_for};
+ghost use Rattle.acts.specs.StepPlans.{goes_on, page_settles, read_in, stage_for};
 ghost use Rattle.acts.specs.Told.{reply_of, told_as};
-ghost use Rattle.layout.specs.Pool.{applied_in};
+ghost use Rattle.layout.specs.Pool.{applied_in, sight};
 ghost use Rattle.work.specs.Stepped.{step_at};
 ghost use Rattle.pool.specs.Loans.{IsSameLoan};
 
 use super::row::{counted, go_on, rest};
 use acts::{Reader, Refusal, Told, after};
-use pool::PoolMut;
-use rulebook::{Hand, Reading, Stage, Task};
+use pool::{Pool, PoolMut};
+use rulebook::{Damaged, Hand, Progress, Reading, Stage, Task};
 
 // ---- the cell in hand is settled
 
@@ -62,70 +62,67 @@ fn settle(pool: &mut PoolMut<'_>, task: u32, reader: Reader, row: Task, hand: Ha
     }
 }
 
-// ---- one step each
+// ---- one reading
 
-/// First: read the cell, the guess.
-#[tactic(auto, unfolding(acts::specs::StepPlans::read_in, acts::specs::StepPlans::read_guess, layout::specs::Pool::sight), using(crate::proofs::Stages::readings))]
-pub fn step_guess(pool: &mut PoolMut<'_>, task: u32, reader: Reader) -> Result<Told, Refusal>
-    requires { task < pool.old.sizes.t }
-    ensures words { (pool.new.words.now, reply_of result) ≡ step_at pool.old.words.now pool.old.sizes task (stage_for reader Reading.Guess) }
-    ensures same { IsSameLoan pool.old pool.new }
+// What follows from what the next reading of the get in hand reads. A search that is over has no entry in its middle.
+#[tactic(auto, unfolding(acts::specs::StepPlans::read_in, acts::specs::StepPlans::read_guess, acts::specs::StepPlans::read_version, acts::specs::StepPlans::read_length, acts::specs::StepPlans::read_entry, layout::specs::Pool::sight))]
+fn read(pool: Pool<'_>, reading: Reading, row: Task) -> Result<Progress, Damaged>
+    ensures { result ≡ read_in reading (sight pool.entry.words.now pool.entry.sizes) row }
 {
-    let row = counted(pool, task);
-    let value = pool.as_pool().cell(row.block, row.hand.cell)?;
-    let stage = reader.stage(Reading::Version);
-    Ok(go_on(pool, task, row.moved(stage, row.hand.guessed(value))))
+    let hand = row.hand;
+    match reading {
+        // First: read the cell, the guess.
+        Reading::Guess => {
+            let value = pool.cell(row.block, hand.cell)?;
+            Ok(Progress::Going(Reading::Version, hand.guessed(value)))
+        }
+        // Second: read V; if V = L the guess is the answer.
+        Reading::Version => {
+            if pool.version(row.block)? == row.number {
+                return Ok(Progress::Settled(hand));
+            }
+            Ok(Progress::Going(Reading::Length, hand))
+        }
+        // Third: read the log's length; if 0, the guess is the answer.
+        Reading::Length => {
+            let entries = pool.log_length(row.block, hand.cell)?;
+            if entries == 0 {
+                return Ok(Progress::Settled(hand));
+            }
+            Ok(Progress::Going(Reading::Probe, hand.searching(entries)))
+        }
+        // Then one probe a step; when lo = hi, in the same step, the search is over.
+        Reading::Probe => {
+            if hand.hi <= hand.lo {
+                return Err(Damaged);
+            }
+            let entry = pool.entry(row.block, hand.cell, hand.middle())?;
+            let probed = hand.probed(entry, row.number);
+            if probed.lo == probed.hi {
+                return Ok(Progress::Settled(probed));
+            }
+            Ok(Progress::Going(Reading::Probe, probed))
+        }
+    }
 }
 
-/// Second: read V; if V = L the guess is the answer.
-#[tactic(auto, unfolding(acts::specs::StepPlans::read_in, acts::specs::StepPlans::read_version, layout::specs::Pool::sight), using(crate::proofs::Stages::readings))]
-pub fn step_version(pool: &mut PoolMut<'_>, task: u32, reader: Reader) -> Result<Told, Refusal>
+/// A step of whoever reads.
+#[tactic(auto, using(crate::proofs::Stages::readings))]
+pub fn step_reading(
+    pool: &mut PoolMut<'_>,
+    task: u32,
+    reader: Reader,
+    reading: Reading,
+) -> Result<Told, Refusal>
     requires { task < pool.old.sizes.t }
-    ensures words { (pool.new.words.now, reply_of result) ≡ step_at pool.old.words.now pool.old.sizes task (stage_for reader Reading.Version) }
+    ensures words { (pool.new.words.now, reply_of result) ≡ step_at pool.old.words.now pool.old.sizes task (stage_for reader reading) }
     ensures same { IsSameLoan pool.old pool.new }
 {
     let row = counted(pool, task);
-    if pool.as_pool().version(row.block)? == row.number {
-        return Ok(settle(pool, task, reader, row, row.hand));
+    match read(pool.as_pool(), reading, row)? {
+        Progress::Going(next, hand) => {
+            Ok(go_on(pool, task, row.moved(reader.stage(next), hand)))
+        }
+        Progress::Settled(hand) => Ok(settle(pool, task, reader, row, hand)),
     }
-    let stage = reader.stage(Reading::Length);
-    Ok(go_on(pool, task, row.moved(stage, row.hand)))
-}
-
-/// Third: read the log's length; if 0, the guess is the answer.
-#[tactic(auto, unfolding(acts::specs::StepPlans::read_in, acts::specs::StepPlans::read_length, layout::specs::Pool::sight), using(crate::proofs::Stages::readings))]
-pub fn step_length(pool: &mut PoolMut<'_>, task: u32, reader: Reader) -> Result<Told, Refusal>
-    requires { task < pool.old.sizes.t }
-    ensures words { (pool.new.words.now, reply_of result) ≡ step_at pool.old.words.now pool.old.sizes task (stage_for reader Reading.Length) }
-    ensures same { IsSameLoan pool.old pool.new }
-{
-    let row = counted(pool, task);
-    let entries = pool.as_pool().log_length(row.block, row.hand.cell)?;
-    if entries == 0 {
-        return Ok(settle(pool, task, reader, row, row.hand));
-    }
-    let stage = reader.stage(Reading::Probe);
-    Ok(go_on(pool, task, row.moved(stage, row.hand.searching(entries))))
-}
-
-/// Then one probe a step; when lo = hi, in the same step, the search is over. A search that is over has no entry in its middle.
-#[tactic(auto, unfolding(acts::specs::StepPlans::read_in, acts::specs::StepPlans::read_entry, layout::specs::Pool::sight), using(crate::proofs::Stages::readings))]
-pub fn step_probe(pool: &mut PoolMut<'_>, task: u32, reader: Reader) -> Result<Told, Refusal>
-    requires { task < pool.old.sizes.t }
-    ensures words { (pool.new.words.now, reply_of result) ≡ step_at pool.old.words.now pool.old.sizes task (stage_for reader Reading.Probe) }
-    ensures same { IsSameLoan pool.old pool.new }
-{
-    let row = counted(pool, task);
-    if row.hand.hi <= row.hand.lo {
-        return Err(Refusal::Damaged);
-    }
-    let entry = pool
-        .as_pool()
-        .entry(row.block, row.hand.cell, row.hand.middle())?;
-    let hand = row.hand.probed(entry, row.number);
-    if hand.lo == hand.hi {
-        return Ok(settle(pool, task, reader, row, hand));
-    }
-    let stage = reader.stage(Reading::Probe);
-    Ok(go_on(pool, task, row.moved(stage, hand)))
 }

@@ -1,36 +1,17 @@
 // A step: the stage of the task decides.
 ghost use Rattle.std.specs.Prelude.{◌<◌, ◌≡◌};
-ghost use Rattle.acts.specs.StepPlans.{plan_step, stage_for};
+ghost use Rattle.acts.specs.StepPlans.{plan_step};
 ghost use Rattle.acts.specs.Told.{reply_of};
 ghost use Rattle.layout.specs.Pool.{applied_in, sight};
 ghost use Rattle.work.specs.Stepped.{step_at};
 ghost use Rattle.pool.specs.Loans.{IsSameLoan};
 
 use super::news::{step_fill, step_put, step_take};
-use super::readings::{step_guess, step_length, step_probe, step_version};
+use super::readings::step_reading;
 use super::sets::{step_append, step_exchange, step_fill_copy, step_read, step_write};
 use acts::{Reader, Refusal, Told};
 use pool::PoolMut;
-use rulebook::{Reading, Stage};
-
-// What whoever reads does at a reading.
-fn step_reading(
-    pool: &mut PoolMut<'_>,
-    task: u32,
-    reader: Reader,
-    reading: Reading,
-) -> Result<Told, Refusal>
-    requires { task < pool.old.sizes.t }
-    ensures words { (pool.new.words.now, reply_of result) ≡ step_at pool.old.words.now pool.old.sizes task (stage_for reader reading) }
-    ensures same { IsSameLoan pool.old pool.new }
-{
-    match reading {
-        Reading::Guess => step_guess(pool, task, reader),
-        Reading::Version => step_version(pool, task, reader),
-        Reading::Length => step_length(pool, task, reader),
-        Reading::Probe => step_probe(pool, task, reader),
-    }
-}
+use rulebook::Stage;
 
 // A step at the stage.
 #[tactic(auto, unfolding(crate::specs::Stepped::step_at, acts::specs::StepPlans::plan_at, layout::specs::Pool::sight), using(crate::proofs::Doing::doing))]
@@ -39,21 +20,21 @@ fn step_at(pool: &mut PoolMut<'_>, task: u32, stage: Stage) -> Result<Told, Refu
     ensures words { (pool.new.words.now, reply_of result) ≡ step_at pool.old.words.now pool.old.sizes task stage }
     ensures same { IsSameLoan pool.old pool.new }
 {
-    match stage {
-        Stage::Idle => Err(Refusal::Idle),
-        Stage::TakeNew => step_take(pool, task, Stage::FillNew),
-        Stage::FillNew => step_fill(pool, task),
-        Stage::Getting(reading) => step_reading(pool, task, Reader::Get, reading),
-        Stage::Exchange => step_exchange(pool, task),
-        Stage::Read => step_read(pool, task),
-        Stage::Append => step_append(pool, task),
-        Stage::Write => step_write(pool, task),
-        Stage::TakeCopy => step_take(pool, task, Stage::Copying(Reading::Guess)),
-        Stage::Copying(reading) => step_reading(pool, task, Reader::Copy, reading),
-        Stage::FillCopy => step_fill_copy(pool, task),
-        Stage::Put => step_put(pool, task),
-        Stage::Paging(reading) => step_reading(pool, task, Reader::Page, reading),
-    }
+    let (reader, reading) = match stage {
+        Stage::Idle => return Err(Refusal::Idle),
+        Stage::TakeNew | Stage::TakeCopy => return step_take(pool, task, stage),
+        Stage::FillNew => return step_fill(pool, task),
+        Stage::Exchange => return step_exchange(pool, task),
+        Stage::Read => return step_read(pool, task),
+        Stage::Append => return step_append(pool, task),
+        Stage::Write => return step_write(pool, task),
+        Stage::FillCopy => return step_fill_copy(pool, task),
+        Stage::Put => return step_put(pool, task),
+        Stage::Getting(reading) => (Reader::Get, reading),
+        Stage::Copying(reading) => (Reader::Copy, reading),
+        Stage::Paging(reading) => (Reader::Page, reading),
+    };
+    step_reading(pool, task, reader, reading)
 }
 
 /// The task takes a step.
