@@ -1,7 +1,7 @@
 // Searches of the rows: each ends at the first row that decides, a damaged one too.
 use super::rows::{count_rows, first_row};
 use super::view::Pool;
-use rulebook::{Damaged, LAST_SERIAL};
+use rulebook::{Damaged, LAST_SERIAL, MOST_BLOCKS};
 
 impl Pool<'_> {
     ghost use Rattle.std.specs.Prelude.{◌≡◌, ◌<◌};
@@ -75,17 +75,6 @@ impl Pool<'_> {
         Ok(None)
     }
 
-    // Nothing holds the block.
-    #[tactic(auto, unfolding(acts::specs::Plans::free_at, acts::specs::Plans::unheld))]
-    fn is_free(self, block: u32) -> Result<Option<u32>, Damaged>
-        ensures { result ≡ free_at (sight self.entry.words.now self.entry.sizes) block }
-    {
-        if self.holder(block)?.is_none() {
-            return Ok(Some(block));
-        }
-        Ok(None)
-    }
-
     // ---- all rows
 
     /// A live handle that stands on the block.
@@ -131,12 +120,20 @@ impl Pool<'_> {
         }
     }
 
-    /// The lowest free block.
-    #[tactic(auto, unfolding(acts::specs::Plans::free_in, layout::specs::Pool::sight))]
+    /// The lowest free block. It is asked of each block whether it is there: a division for B would cost every step.
+    #[tactic(auto, unfolding(acts::specs::Plans::free_in, acts::specs::Plans::free_at, acts::specs::Plans::unheld, layout::specs::Pool::sight), using(acts::proofs::Searches::first_of_zero, acts::proofs::Searches::first_of_none, acts::proofs::Searches::first_of_stops))]
     pub fn free_block(self) -> Result<Option<u32>, Damaged>
         ensures { result ≡ free_in (sight self.entry.words.now self.entry.sizes) }
     {
-        first_row(self.sizes.b, move |block| self.is_free(block))
+        for block in 0..MOST_BLOCKS {
+            if !self.has_block(block) {
+                return Ok(None);
+            }
+            if self.holder(block)?.is_none() {
+                return Ok(Some(block));
+            }
+        }
+        Ok(None)
     }
 
     // ---- counts

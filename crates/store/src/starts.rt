@@ -15,7 +15,7 @@ const SLOTS: u32 = 256;
 // ---- what is asked first
 
 // The task is idle.
-#[tactic(auto, unfolding(acts::specs::Plans::ready_in, acts::specs::Plans::ready_row, layout::specs::Pool::sight))]
+#[tactic(auto, unfolding(acts::specs::Plans::ready_in, layout::specs::Pool::sight), using(crate::proofs::Ready::readies))]
 fn ready(pool: Pool<'_>, task: u32) -> Result<(), Refusal>
     ensures ready { result ≡ ready_in (sight pool.entry.words.now pool.entry.sizes) task }
     ensures there { OnOk result (task < pool.entry.sizes.t) }
@@ -23,7 +23,7 @@ fn ready(pool: Pool<'_>, task: u32) -> Result<(), Refusal>
     if pool.sizes.t <= task {
         return Err(Refusal::NoTask);
     }
-    if pool.task(task)?.stage.is_busy() {
+    if Stage::try_from(pool.code(task))?.is_busy() {
         return Err(Refusal::Busy);
     }
     Ok(())
@@ -80,6 +80,7 @@ fn maker(value: u32, slot: u32) -> Task
 
 // The slot is reserved for the task, which is started.
 #[tactic(auto, unfolding(acts::specs::Plans::reserves_for), using(work::proofs::Doing::doing))]
+#[inline(always)]
 fn reserve(pool: &mut PoolMut<'_>, slot: u32, task: u32, begun: Task) -> Result<Told, Refusal>
     requires { task < pool.old.sizes.t }
     ensures words { (pool.new.words.now, reply_of result) ≡ applied_in pool.old.words.now pool.old.sizes (reserves_for (slot_seen pool.old.words.now pool.old.sizes slot) slot task begun) }

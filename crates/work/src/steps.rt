@@ -7,13 +7,13 @@ ghost use Rattle.work.specs.Stepped.{step_at};
 ghost use Rattle.pool.specs.Loans.{IsSameLoan};
 
 use super::news::{step_fill, step_put, step_take};
-use super::readings::step_reading;
+use super::readings::{step_guess, step_length, step_probe, step_version};
 use super::sets::{step_append, step_exchange, step_fill_copy, step_read, step_write};
 use acts::{Reader, Refusal, Told};
 use pool::PoolMut;
-use rulebook::Stage;
+use rulebook::{Reading, Stage};
 
-// A step at the stage.
+// A step at the stage. Each function of a stage is called at one place, so that a step is one piece of machine code.
 #[tactic(auto, unfolding(crate::specs::Stepped::step_at, acts::specs::StepPlans::plan_at, layout::specs::Pool::sight), using(crate::proofs::Doing::doing))]
 fn step_at(pool: &mut PoolMut<'_>, task: u32, stage: Stage) -> Result<Told, Refusal>
     requires { task < pool.old.sizes.t }
@@ -34,7 +34,12 @@ fn step_at(pool: &mut PoolMut<'_>, task: u32, stage: Stage) -> Result<Told, Refu
         Stage::Copying(reading) => (Reader::Copy, reading),
         Stage::Paging(reading) => (Reader::Page, reading),
     };
-    step_reading(pool, task, reader, reading)
+    match reading {
+        Reading::Guess => step_guess(pool, task, reader),
+        Reading::Version => step_version(pool, task, reader),
+        Reading::Length => step_length(pool, task, reader),
+        Reading::Probe => step_probe(pool, task, reader),
+    }
 }
 
 /// The task takes a step.

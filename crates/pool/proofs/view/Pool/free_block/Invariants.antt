@@ -1,6 +1,8 @@
-use Rattle.acts.specs.Plans.{free_at}
+use Rattle.std.proofs.Common.{◌≡◌, ◌≤◌, Ok, None}
+use Rattle.acts.specs.Plans.{first_of, free_at}
 use Rattle.layout.specs.Pool.{sight}
 use Rattle.pool.proofs.view.Pool.free_block.Given as goal
 
-abbrev pub ghost-first_row : goal.ghost-first_row
-ghost-first_row a = free_at (sight a.row.0.words.now a.row.0.sizes)
+-- none of the blocks so far is free
+abbrev pub invariant-loop-block : goal.invariant-loop-block
+invariant-loop-block l = (first_of (free_at (sight l.self.words.now l.self.sizes)) l.block ≡ Ok None) × (l.block ≤ l.self.sizes.b)
