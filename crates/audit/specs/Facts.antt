@@ -10,7 +10,8 @@ use Rattle.layout.specs.Pool.{view_of}
 use Rattle.layout.specs.Rows.{task_read}
 use Rattle.rulebook.specs.State.{names}
 use Rattle.rules.specs.Paced.{Paced, TaskRange}
-use Rattle.survey.specs.Holds.{task_holds}
+use Rattle.survey.specs.Holds.{on_cell, task_holds}
+use borrow.Author.Tests.{lt-ltb}
 use Rattle.survey.specs.Logs.{Walkable, live_walkable}
 use Rattle.survey.specs.Rules.{Rule2, Rule3, Rule6, shown, task}
 use Rattle.survey.specs.Ways.{slot_as, task_as, version-here}
@@ -42,6 +43,10 @@ module _ (d : Sizes) (p : List ℕ) where
   pub record Stands (g : Stage) (k : Task) : Type 0 where
     pub ranged : Ranged k
     pub logs : names g ≡ true → Walkable d.n (block_part p d k.block)
+
+  pub on_cell_lem : (k : Task) → Ranged k → on_cell (shown d p) k ≡ true
+  unfolding view_of
+  on_cell_lem k s = lt-ltb k.cell d.n s.cell
 
   -- ---- the task
 
@@ -77,4 +82,4 @@ module _ (d : Sizes) (p : List ℕ) where
   unfolding view_of
   cells-of = refl
 
-pub ruleset facts = (task_as, version-here, cells-of)
+pub ruleset facts = (task_as, version-here, cells-of, on_cell_lem)

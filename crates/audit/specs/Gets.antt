@@ -4,7 +4,7 @@ use Rattle.std.specs.Prelude.{◌<◌, ℕ, Bool, ◌&&◌, true, List, ◌≡�
 use Rattle.std.proofs.Common.{◌∙◌, arith}
 use Rattle.std.proofs.Math.Path.{ap, sym}
 use Rattle.std.proofs.Math.ListN.{length}
-use borrow.Author.Tests.{lt-ltb}
+use borrow.Author.Tests.{eq-eqb, lt-ltb}
 use Rattle.rulebook.specs.declared.Entry.{Entry}
 use Rattle.rulebook.specs.declared.Hand.{Hand}
 use Rattle.rulebook.specs.declared.Sizes.{Sizes}
@@ -62,6 +62,11 @@ module _ (d : Sizes) (p : List ℕ) where
           ap (λ (b : Block). version_at (log_at b i) j) (view_block_at d p k g.block) ∙ ap (λ (x : Entry). x.version) (entry_at_lem d.n (block_part p d k) i g.cell j in_log)
           ∙ sym (e ∙ seen_as)
 
+    -- a candidate that has the version of the entry at hi
+    pub candidate_is : (L : ℕ) (w : Hand) → w.hi < length (log_in k i) → (at : ℕ) → at ≡ stamp_in d.n (block_part p d k) i w.hi → w.version ≡ at → leb L w.version ≡ candidate_in (log_in k i) L w
+    unfolding candidate_in
+    candidate_is L w l at e o = rw (lt-ltb w.hi (length (log_in k i)) l, stamp_as w.hi l at e, eq-eqb w.version at o) (ap (leb L) o)
+
 -- ---- the get in hand
 
 module _ (d : Sizes) (p : List ℕ) (k : Task) (l : k.hand.cell < d.n) where
@@ -69,4 +74,4 @@ module _ (d : Sizes) (p : List ℕ) (k : Task) (l : k.hand.cell < d.n) where
   unfolding view_of
   on_hand = lt-ltb k.hand.cell d.n l
 
-pub ruleset gets = (log_length, stamp_as, on_hand)
+pub ruleset gets = (log_length, stamp_as, candidate_is, on_hand)
