@@ -1,67 +1,24 @@
 -- What a task holds: a slot that it has reserved, a block that it fills; and that no other task holds it.
--- Rests on Broken.
-use Rattle.std.specs.Prelude.{◌+◌, ◌<◌, ℕ, suc, zero, Bool, false, true, List, ◌≡◌, refl, Option, Some, None, eqb, if◌then◌else◌}
-use Rattle.std.proofs.Common.{◌∙◌, sym}
+-- Rests on Rules and Decide; nothing is proved here.
+use Rattle.std.specs.Prelude.{ℕ, Bool, List, Option, Some, None, eqb, if◌then◌else◌}
 use Rattle.std.specs.Option.{option_eq}
-use borrow.Author.Tests.{eq-eqb, eqb-false, eqb-true, ne_eqb}
 use Rattle.rulebook.specs.declared.Sizes.{Sizes}
+use Rattle.rulebook.specs.declared.Stage.{Stage}
 use Rattle.rulebook.specs.declared.Task.{Task}
 use Rattle.rulebook.specs.State.{fills, reserves}
-use Rattle.rulebook.specs.Tests.{by_test}
-use Rattle.layout.specs.Places.{task_part}
-use Rattle.layout.specs.Rows.{task_read}
-use Rattle.theorems.specs.Terms.{all_to}
-use Rattle.survey.specs.Broken.{fresh_apart, target_apart}
 use Rattle.survey.specs.Decide.{◌implies◌}
 use Rattle.survey.specs.Rules.{task}
-use Rattle.survey.specs.Ways.{task_as, all-stop, all-on}
+
+-- what a task holds at the stages that f tells: the thing that g tells
+abbrev pub held_by : (Stage → Bool) → (Task → ℕ) → Task → Option ℕ
+held_by f g x = if f x.stage then Some (g x) else None
 
 unfoldable pub reserved_by : Task → Option ℕ
-reserved_by x = if reserves x.stage then Some x.fresh else None
+reserved_by = held_by reserves (λ x. x.fresh)
 
 unfoldable pub filled_by : Task → Option ℕ
-filled_by x = if fills x.stage then Some x.target else None
+filled_by = held_by fills (λ x. x.target)
 
 -- the task u does not hold the thing, or it is task t
 unfoldable pub alone_at : Sizes → List ℕ → (Task → Option ℕ) → ℕ → ℕ → ℕ → Bool
 alone_at d p held t thing u = option_eq eqb (held (task d p u)) (Some thing) implies eqb t u
-
-all_same : (f g : ℕ → Bool) → ((i : ℕ) → f i ≡ g i) → (n : ℕ) → all_to f n ≡ all_to g n
-unfolding all_to
-all_same f g h zero = refl
-all_same f g h (suc n) = rw (all_same f g h n, h n)
-
-flip : (a b : ℕ) → eqb a b ≡ eqb b a
-flip a b = by_test (eqb a b) (λ e. e ∙ sym (eq-eqb b a (sym (eqb-true a b e)))) (λ e. e ∙ sym (ne_eqb b a (λ z. eqb-false a b e (sym z))))
-
-module _ (d : Sizes) (p : List ℕ) (x : Task) (t : ℕ) where
-  fresh_same : (u : ℕ) → alone_at d p reserved_by t x.fresh u ≡ fresh_apart d p x t u
-  unfolding alone_at fresh_apart reserved_by
-  fresh_same u = by_test (reserves (task d p u).stage) (λ e. rw (e, flip (task d p u).fresh x.fresh)) (λ e. rw e)
-
-  target_same : (u : ℕ) → alone_at d p filled_by t x.target u ≡ target_apart d p x t u
-  unfolding alone_at target_apart filled_by
-  target_same u = by_test (fills (task d p u).stage) (λ e. rw (e, flip (task d p u).target x.target)) (λ e. rw e)
-
-  pub alone_fresh : (n : ℕ) → all_to (alone_at d p reserved_by t x.fresh) n ≡ all_to (fresh_apart d p x t) n
-  alone_fresh n = all_same (alone_at d p reserved_by t x.fresh) (fresh_apart d p x t) fresh_same n
-
-  pub alone_target : (n : ℕ) → all_to (alone_at d p filled_by t x.target) n ≡ all_to (target_apart d p x t) n
-  alone_target n = all_same (alone_at d p filled_by t x.target) (target_apart d p x t) target_same n
-
--- ---- from task to task: what task u holds is r
-
-module _ (d : Sizes) (p : List ℕ) (held : Task → Option ℕ) (t thing u : ℕ) (l : u < d.t) (x : Task) (e : x ≡ task_read (task_part p d u))
-    (r : Option ℕ) (f : r ≡ held x) where
-  holds_as : held (task d p u) ≡ r
-  holds_as = rw (task_as d p u x e l) (sym f)
-
-  pub alone_stop : option_eq eqb r (Some thing) ≡ true → (u ≡ t → ⊥) → false ≡ all_to (alone_at d p held t thing) d.t
-  alone_stop g o = all-stop (alone_at d p held t thing) u false (unfold alone_at in rw (holds_as, g, ne_eqb t u (λ z. o (sym z)))) d.t l refl
-
-  module _ (so : all_to (alone_at d p held t thing) u ≡ true) where
-    pub alone_own : u ≡ t → all_to (alone_at d p held t thing) (u + 1) ≡ true
-    alone_own g = all-on (alone_at d p held t thing) u true (unfold alone_at in by_test (option_eq eqb (held (task d p u)) (Some thing)) (λ z. rw (z, eq-eqb t u (sym g))) (λ z. rw z)) so refl
-
-    pub alone_else : option_eq eqb r (Some thing) ≡ false → all_to (alone_at d p held t thing) (u + 1) ≡ true
-    alone_else g = all-on (alone_at d p held t thing) u true (unfold alone_at in rw (holds_as, g)) so refl

@@ -3,14 +3,9 @@ pub mod Whole
 pub mod Decide
 pub mod Holds
 pub mod Broken
-pub mod DecideBlocks
-pub mod DecideTasks
-pub mod Decided
 pub mod Searches
 pub mod Stands
 pub mod Logs
-pub mod Walk
-pub mod Ways
 pub mod Held
 pub mod Tally
 pub mod Chains

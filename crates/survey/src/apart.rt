@@ -1,5 +1,4 @@
 // Rule 5, where rule 2 holds: one pass over the slots chains the live handles of each block, and a number met twice on one chain breaks the rule.
-// Rests on specs/Chains and specs/Apart.
 ghost use Rattle.std.specs.Prelude.{◌≡◌, ◌+◌, ◌<◌};
 ghost use Rattle.survey.specs.Rules.{Rule2};
 ghost use Rattle.survey.specs.Broken.{rule5};
@@ -7,13 +6,13 @@ ghost use Rattle.survey.specs.Chains.{Chained, ChainedTo};
 ghost use Rattle.survey.specs.Apart.{Told, Unmet};
 
 use pool::Pool;
-use rulebook::{MOST_BLOCKS, MOST_HANDLES};
+use rulebook::{MOST_BLOCKS, MOST_CELLS, MOST_HANDLES};
 
 // No slot and no block; arrays start with it. An Option in them would double them.
 const NONE: u32 = 256;
 
 // A mark for each number that a handle may have: 0 to N.
-const NUMBERS: usize = 4097;
+const NUMBERS: usize = MOST_CELLS as usize + 1;
 
 // The handle in the slot, if it is live, comes first on the chain of its block.
 fn chain_slot(pool: Pool<'_>, slot: u32, first: &mut [u32], next: &mut [u32])
@@ -66,7 +65,7 @@ fn blocks_apart(pool: Pool<'_>, first: &[u32], next: &[u32], seen: &mut [u32]) -
     true
 }
 
-/// Rule 5.
+/// Rule 5, where rule 2 holds.
 pub fn all_apart(pool: Pool<'_>) -> bool
     requires { Rule2 pool.sizes pool.words.now }
     ensures { result ≡ rule5 pool.entry.sizes pool.entry.words.now }

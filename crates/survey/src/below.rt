@@ -3,8 +3,8 @@ ghost use Rattle.std.specs.Prelude.{◌≡◌, ◌<◌, ℕ, Bool};
 ghost use Rattle.theorems.specs.Terms.{all_to};
 ghost use Rattle.survey.specs.Decide.{some_to};
 
-#[tactic(auto, using(crate::specs::Ways::loops))]
 /// Whether the test holds of each of 0, .. count - 1.
+#[tactic(auto, using(crate::proofs::Ways::loops))]
 pub fn all_below<F: Fn(u32) -> bool>(count: u32, test: F) -> bool
     ghost says: { ℕ → Bool }
     requires may { (index : ℕ) → index < count → F.pre test index }
@@ -19,8 +19,8 @@ pub fn all_below<F: Fn(u32) -> bool>(count: u32, test: F) -> bool
     true
 }
 
-#[tactic(auto, using(crate::specs::Ways::loops))]
 /// Whether the test holds of one of 0, .. count - 1.
+#[tactic(auto, using(crate::proofs::Ways::loops))]
 pub fn any_below<F: Fn(u32) -> bool>(count: u32, test: F) -> bool
     ghost says: { ℕ → Bool }
     requires may { (index : ℕ) → index < count → F.pre test index }

@@ -6,7 +6,7 @@ use super::all_below;
 use pool::Pool;
 
 // The handle in the slot, if it is live, stands on a block of the pool, within that block's versions.
-#[tactic(auto, unfolding(crate::specs::Broken::rule2_at), using(layout::specs::View::view_slot_at, crate::specs::Ways::versions))]
+#[tactic(auto, unfolding(crate::specs::Broken::rule2_at), using(layout::specs::View::view_slot_at, crate::proofs::Ways::versions))]
 fn stands_well(pool: Pool<'_>, slot: u32) -> bool
     requires { slot < pool.sizes.h }
     ensures { result ≡ rule2_at pool.entry.sizes pool.entry.words.now slot }

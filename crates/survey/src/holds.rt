@@ -18,7 +18,7 @@ fn stands_as(task: Task, slot: Slot) -> bool
 }
 
 // The handle that the task names is live.
-#[tactic(auto, unfolding(crate::specs::Broken::named_at), using(layout::specs::View::view_slot_at, layout::specs::View::view_task_at))]
+#[tactic(auto, unfolding(crate::specs::Broken::named_at, crate::specs::Holds::stands_as), using(layout::specs::View::view_slot_at, layout::specs::View::view_task_at, crate::proofs::Ways::beyond))]
 fn names_live(pool: Pool<'_>, task: u32) -> bool
     requires { task < pool.sizes.t }
     ensures { result ≡ named_at pool.entry.sizes pool.entry.words.now task }
@@ -35,11 +35,7 @@ fn names_live(pool: Pool<'_>, task: u32) -> bool
 fn reserved_by(task: Task) -> Option<u32>
     ensures { result ≡ reserved_by task }
 {
-    if task.stage.reserves_slot() {
-        Some(task.fresh)
-    } else {
-        None
-    }
+    task.stage.reserves_slot().then_some(task.fresh)
 }
 
 // The block that the task fills.
@@ -47,16 +43,12 @@ fn reserved_by(task: Task) -> Option<u32>
 fn filled_by(task: Task) -> Option<u32>
     ensures { result ≡ filled_by task }
 {
-    if task.stage.fills_block() {
-        Some(task.target)
-    } else {
-        None
-    }
+    task.stage.fills_block().then_some(task.target)
 }
 
-// No task but this one holds the thing.
-#[tactic(auto, using(crate::specs::Ways::loops))]
-fn alone<F: Fn(Task) -> Option<u32>>(pool: Pool<'_>, task: u32, thing: u32, holds: F) -> bool
+/// No task but this one holds the thing.
+#[tactic(auto, using(crate::proofs::Ways::loops))]
+pub fn alone<F: Fn(Task) -> Option<u32>>(pool: Pool<'_>, task: u32, thing: u32, holds: F) -> bool
     ghost held: { Task → Option ℕ }
     requires may { (other : Task) → F.pre holds other }
     requires gives { (other : Task) (found : Option ℕ) → F.post holds other found → found ≡ held other }
@@ -71,7 +63,7 @@ fn alone<F: Fn(Task) -> Option<u32>>(pool: Pool<'_>, task: u32, thing: u32, hold
 }
 
 // The slot that the task has reserved is reserved, and for it alone.
-#[tactic(auto, unfolding(crate::specs::Broken::fresh_at, crate::specs::Held::reserved_by), using(layout::specs::View::view_slot_at, layout::specs::View::view_task_at, crate::specs::Held::alone_fresh))]
+#[tactic(auto, unfolding(crate::specs::Broken::fresh_at, crate::specs::Held::reserved_by), using(layout::specs::View::view_slot_at, layout::specs::View::view_task_at, crate::proofs::Holding::alone_fresh))]
 fn fresh_at(pool: Pool<'_>, task: u32) -> bool
     requires { task < pool.sizes.t }
     ensures { result ≡ fresh_at pool.entry.sizes pool.entry.words.now task }
@@ -79,12 +71,10 @@ fn fresh_at(pool: Pool<'_>, task: u32) -> bool
     let Some(slot) = reserved_by(pool.raw_task(task)) else {
         return true;
     };
-    slot < pool.sizes.h
-        && pool.raw_slot(slot).is_reserved()
-        && alone(pool, task, slot, |other| reserved_by(other))
+    slot < pool.sizes.h && pool.raw_slot(slot).is_reserved() && alone(pool, task, slot, reserved_by)
 }
 
-#[tactic(auto, unfolding(crate::specs::Broken::off_target), using(layout::specs::View::view_slot_at, layout::specs::View::view_task_at))]
+#[tactic(auto, unfolding(crate::specs::Broken::off_target), using(layout::specs::View::view_slot_at))]
 fn off_target(pool: Pool<'_>, task: Task, slot: u32) -> bool
     requires { slot < pool.sizes.h }
     ensures { result ≡ off_target pool.entry.sizes pool.entry.words.now task slot }
@@ -94,7 +84,7 @@ fn off_target(pool: Pool<'_>, task: Task, slot: u32) -> bool
 }
 
 // The block that the task fills has no other task and no live handle.
-#[tactic(auto, unfolding(crate::specs::Broken::target_at, crate::specs::Held::filled_by), using(layout::specs::View::view_slot_at, layout::specs::View::view_task_at, crate::specs::Held::alone_target))]
+#[tactic(auto, unfolding(crate::specs::Broken::target_at, crate::specs::Held::filled_by), using(layout::specs::View::view_task_at, crate::proofs::Holding::alone_target))]
 fn target_at(pool: Pool<'_>, task: u32) -> bool
     requires { task < pool.sizes.t }
     ensures { result ≡ target_at pool.entry.sizes pool.entry.words.now task }
@@ -103,11 +93,11 @@ fn target_at(pool: Pool<'_>, task: u32) -> bool
     let Some(block) = filled_by(busy) else {
         return true;
     };
-    alone(pool, task, block, |other| filled_by(other))
+    alone(pool, task, block, filled_by)
         && all_below(pool.sizes.h, move |slot| off_target(pool, busy, slot))
 }
 
-#[tactic(auto, unfolding(crate::specs::Broken::rule6_at), using(layout::specs::View::view_slot_at, layout::specs::View::view_task_at))]
+#[tactic(auto, unfolding(crate::specs::Broken::rule6_at))]
 fn holds_well(pool: Pool<'_>, task: u32) -> bool
     requires { task < pool.sizes.t }
     ensures { result ≡ rule6_at pool.entry.sizes pool.entry.words.now task }
@@ -115,7 +105,7 @@ fn holds_well(pool: Pool<'_>, task: u32) -> bool
     names_live(pool, task) && fresh_at(pool, task) && target_at(pool, task)
 }
 
-#[tactic(auto, unfolding(crate::specs::Broken::owns_at, crate::specs::Held::reserved_by), using(layout::specs::View::view_slot_at, layout::specs::View::view_task_at))]
+#[tactic(auto, unfolding(crate::specs::Broken::owns_at, crate::specs::Held::reserved_by), using(layout::specs::View::view_task_at))]
 fn owns(pool: Pool<'_>, slot: u32, task: u32) -> bool
     requires { task < pool.sizes.t }
     ensures { result ≡ owns_at pool.entry.sizes pool.entry.words.now slot task }
@@ -124,7 +114,7 @@ fn owns(pool: Pool<'_>, slot: u32, task: u32) -> bool
 }
 
 // The slot, if it is reserved, belongs to a task.
-#[tactic(auto, unfolding(crate::specs::Broken::owner_at), using(layout::specs::View::view_slot_at, layout::specs::View::view_task_at))]
+#[tactic(auto, unfolding(crate::specs::Broken::owner_at), using(layout::specs::View::view_slot_at))]
 fn owner_at(pool: Pool<'_>, slot: u32) -> bool
     requires { slot < pool.sizes.h }
     ensures { result ≡ owner_at pool.entry.sizes pool.entry.words.now slot }
@@ -134,7 +124,7 @@ fn owner_at(pool: Pool<'_>, slot: u32) -> bool
 }
 
 /// Rule 6.
-#[tactic(auto, unfolding(crate::specs::Broken::rule6), using(layout::specs::View::view_slot_at, layout::specs::View::view_task_at))]
+#[tactic(auto, unfolding(crate::specs::Broken::rule6))]
 pub fn all_held_once(pool: Pool<'_>) -> bool
     ensures { result ≡ rule6 pool.entry.sizes pool.entry.words.now }
 {

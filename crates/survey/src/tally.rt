@@ -26,7 +26,10 @@ pub fn entries_of(pool: Pool<'_>, block: u32) -> u32
 // Where a live handle stands on the block, its entries are at most V and at most N.
 #[tactic(auto, unfolding(crate::specs::Broken::rule4_at))]
 fn few_entries(pool: Pool<'_>, stood: &[u32], block: u32) -> bool
-    requires { Rule2 pool.sizes pool.words.now × Rule3 pool.sizes pool.words.now × Marked pool.sizes pool.words.now stood.now × (block < pool.sizes.b) }
+    requires two { Rule2 pool.sizes pool.words.now }
+    requires three { Rule3 pool.sizes pool.words.now }
+    requires marks { Marked pool.sizes pool.words.now stood.now }
+    requires there { block < pool.sizes.b }
     ensures { result ≡ rule4_at pool.entry.sizes pool.entry.words.now block }
 {
     if !stood_on(stood, block) {
@@ -39,7 +42,9 @@ fn few_entries(pool: Pool<'_>, stood: &[u32], block: u32) -> bool
 /// Rule 4, where rules 2 and 3 hold.
 #[tactic(auto, unfolding(crate::specs::Broken::rule4))]
 pub fn all_few(pool: Pool<'_>, stood: &[u32]) -> bool
-    requires { Rule2 pool.sizes pool.words.now × Rule3 pool.sizes pool.words.now × Marked pool.sizes pool.words.now stood.now }
+    requires two { Rule2 pool.sizes pool.words.now }
+    requires three { Rule3 pool.sizes pool.words.now }
+    requires marks { Marked pool.sizes pool.words.now stood.now }
     ensures { result ≡ rule4 pool.entry.sizes pool.entry.words.now }
 {
     all_below(pool.sizes.b, move |block| few_entries(pool, stood, block))

@@ -6,17 +6,18 @@ ghost use Rattle.survey.specs.Stands.{Marked};
 
 use super::stands::stood_on;
 use pool::Pool;
+use rulebook::MOST_CELLS;
 
 // A mark for each version that an entry may have: V is at most N + 1. It is 0 once met.
-const VERSIONS: usize = 4097;
+const VERSIONS: usize = MOST_CELLS as usize + 1;
 
 /// Rule 3, where rule 2 holds.
-// The walk over blocks, cells and entries is left by a label at the first broken entry: the form is asked for.
 pub fn logs_hold(pool: Pool<'_>, stood: &[u32]) -> bool
     requires { Rule2 pool.sizes pool.words.now × Marked pool.sizes pool.words.now stood.now }
     ensures { result ≡ rule3 pool.entry.sizes pool.entry.words.now }
 {
     let mut kept = true;
+    // The walk over blocks, cells and entries is left by a label at the first broken entry: the form is asked for.
     'walk: for block in 0..pool.sizes.b {
         if !stood_on(stood, block) {
             continue;

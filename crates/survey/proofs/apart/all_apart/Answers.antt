@@ -1,6 +1,6 @@
 use Rattle.std.proofs.Common.{rules}
-use Rattle.survey.specs.Chains.{chain_start}
-use Rattle.survey.specs.Apart.{unmet-start}
+use Rattle.survey.proofs.Chaining.{chain_start}
+use Rattle.survey.proofs.Meeting.{unmet-start}
 use Rattle.survey.proofs.apart.all_apart.Goals as goal
 
 pub chain_slots-requires : goal.chain_slots-requires

@@ -1,5 +1,5 @@
 use Rattle.std.proofs.Common.{rules}
-use Rattle.survey.specs.Apart.{down_number, downs}
+use Rattle.survey.proofs.Meeting.{down_number, downs}
 use Rattle.survey.proofs.apart.apart_on.Goals as goal
 
 pub loop-slot-init : goal.loop-slot-init

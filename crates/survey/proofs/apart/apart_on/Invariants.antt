@@ -1,5 +1,5 @@
 use Rattle.std.proofs.Common.{◌≡◌, length}
-use Rattle.survey.specs.Apart.{Down, left}
+use Rattle.survey.proofs.Meeting.{Down, left}
 use Rattle.survey.proofs.apart.apart_on.Given as goal
 
 abbrev pub invariant-loop-slot : goal.invariant-loop-slot

@@ -1,5 +1,5 @@
 use Rattle.std.proofs.Common.{rules}
-use Rattle.survey.specs.Apart.{aparts}
+use Rattle.survey.proofs.Meeting.{aparts}
 use Rattle.survey.proofs.apart.blocks_apart.Goals as goal
 
 pub returns-then-not-apart_on : goal.returns-then-not-apart_on

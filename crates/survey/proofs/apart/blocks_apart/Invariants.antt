@@ -1,5 +1,5 @@
 use Rattle.std.proofs.Common.{◌≡◌, length}
-use Rattle.survey.specs.Apart.{ApartTo}
+use Rattle.survey.proofs.Meeting.{ApartTo}
 use Rattle.survey.proofs.apart.blocks_apart.Given as goal
 
 abbrev pub invariant-loop-block : goal.invariant-loop-block

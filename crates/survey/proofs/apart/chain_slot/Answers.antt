@@ -1,5 +1,5 @@
 use Rattle.std.proofs.Common.{rules}
-use Rattle.survey.specs.Chains.{chain_block, chains}
+use Rattle.survey.proofs.Chaining.{chain_block, chains}
 use Rattle.survey.proofs.apart.chain_slot.Goals as goal
 
 pub bounds-first-block : goal.bounds-first-block

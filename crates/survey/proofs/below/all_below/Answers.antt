@@ -1,5 +1,5 @@
 use Rattle.std.proofs.Common.{rules}
-use Rattle.survey.specs.Ways.{all-stop}
+use Rattle.survey.proofs.Ways.{all-stop}
 use Rattle.survey.proofs.below.all_below.Goals as goal
 
 pub returns-then-not-test : goal.returns-then-not-test

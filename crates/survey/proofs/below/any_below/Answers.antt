@@ -1,5 +1,5 @@
 use Rattle.std.proofs.Common.{rules}
-use Rattle.survey.specs.Searches.{some-stop}
+use Rattle.survey.proofs.Finding.{some-stop}
 use Rattle.survey.proofs.below.any_below.Goals as goal
 
 pub returns-then-test : goal.returns-then-test

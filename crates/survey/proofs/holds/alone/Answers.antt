@@ -1,5 +1,5 @@
 use Rattle.std.proofs.Common.{rules}
-use Rattle.survey.specs.Held.{alone_stop, alone_own, alone_else}
+use Rattle.survey.proofs.Holding.{alone_stop, alone_own, alone_else}
 use Rattle.survey.proofs.holds.alone.Goals.{else-eq-via-then-eq+else-other-task, else-eq-via-else-eq}
 use Rattle.survey.proofs.holds.alone.Goals as goal
 

@@ -2,7 +2,8 @@ use Rattle.std.proofs.Common.{arith}
 use Rattle.std.proofs.lemmas.Grind.{common_steps}
 use Rattle.layout.specs.View.{view_slot_at, view_task_at}
 use Rattle.survey.specs.Broken.{fresh_at}
-use Rattle.survey.specs.Held.{alone_fresh, reserved_by}
+use Rattle.survey.proofs.Holding.{alone_fresh}
+use Rattle.survey.specs.Held.{reserved_by}
 use Rattle.survey.proofs.holds.fresh_at.Goals.{then-slot-pool, else-slot-pool}
 use Rattle.survey.proofs.holds.fresh_at.Goals as goal
 

@@ -1,5 +1,5 @@
 use Rattle.std.proofs.Common.{rules}
-use Rattle.survey.specs.Stands.{marks}
+use Rattle.survey.proofs.Marking.{marks}
 use Rattle.survey.proofs.stands.mark_slot.Goals.{else-is_live-via-then-is_live+else-handle-lt-MOST_BLOCKS, else-is_live-via-else-is_live}
 use Rattle.survey.proofs.stands.mark_slot.Goals as goal
 

@@ -1,5 +1,5 @@
 use Rattle.std.proofs.Common.{rules}
-use Rattle.survey.specs.Tally.{tallies}
+use Rattle.survey.proofs.Tallies.{tallies}
 use Rattle.survey.proofs.tally.entries_of.Goals as goal
 
 pub returns : goal.returns

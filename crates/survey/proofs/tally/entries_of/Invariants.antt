@@ -1,4 +1,4 @@
-use Rattle.survey.specs.Tally.{TallyAt}
+use Rattle.survey.proofs.Tallies.{TallyAt}
 use Rattle.survey.proofs.tally.entries_of.Given as goal
 
 abbrev pub invariant-loop-cell : goal.invariant-loop-cell

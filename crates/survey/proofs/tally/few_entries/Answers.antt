@@ -1,6 +1,6 @@
 use Rattle.std.proofs.Common.{rules}
-use Rattle.survey.specs.Tally.{tallies}
-use Rattle.survey.specs.Stands.{told}
+use Rattle.survey.proofs.Tallies.{tallies}
+use Rattle.survey.proofs.Marking.{told}
 use Rattle.survey.proofs.tally.few_entries.Goals as goal
 
 pub entries_of-total-requires : goal.entries_of-total-requires

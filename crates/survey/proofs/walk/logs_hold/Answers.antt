@@ -1,6 +1,6 @@
 use Rattle.std.proofs.Common.{rules}
-use Rattle.survey.specs.Walk.{walks}
-use Rattle.survey.specs.Stands.{told}
+use Rattle.survey.proofs.Walking.{walks}
+use Rattle.survey.proofs.Marking.{told}
 use Rattle.survey.proofs.walk.logs_hold.Goals.{then-version-stamp-via-then-version-stamp, then-version-stamp-via-else-version-stamp+then-stamp-least, then-version-stamp-via-else-version-stamp+else-stamp-least+then-marks-stamp-eq0}
 use Rattle.survey.proofs.walk.logs_hold.Goals as goal
 

@@ -1,4 +1,4 @@
-use Rattle.survey.specs.Walk.{BlocksAt, EntriesAt, LogsAt}
+use Rattle.survey.proofs.Walking.{BlocksAt, EntriesAt, LogsAt}
 use Rattle.survey.proofs.walk.logs_hold.Given as goal
 
 abbrev pub invariant-walk : goal.invariant-walk

@@ -1,5 +1,4 @@
 -- What is computed of a pool decides each rule.
--- Rests on DecideBlocks and DecideTasks, and on what the state has beyond the last row.
 use Prim.Native.Nat.{◌+◌, ◌<◌, ◌≤◌, min, ℕ}
 use Rattle.std.specs.Prelude.{Bool, List, ◌≡◌, ltb, get_or}
 use Rattle.std.proofs.Math.Bool.{false, true}
@@ -27,10 +26,10 @@ use Rattle.rules.specs.Rules.{TaskRule}
 use Rattle.theorems.specs.Terms.{all_to, entries}
 use Rattle.survey.specs.Broken.{clear_of, every_busy, every_live, every_slot, every_task, facts_at, filling_at, fresh_apart, fresh_at, laid_at, named_at, not_above, off_target, owner_at, owns_at, rule2, rule2_at, rule3, rule4, rule4_at, rule5, rule5_at, rule6, rule6_at, rule7, slot_sound, target_apart, target_at, task_sound, writer_apart, writer_at}
 use Rattle.survey.specs.Holds.{is_reserved, stands_as}
-use Rattle.survey.specs.Decide.{decide_all, decide_and, decide_as, decide_eq, decide_le, decide_lt, decide_never, decide_only, decide_some, decide_test, decide_three}
-use Rattle.survey.specs.DecideBlocks.{apart_decides, below_decides, filling_decides, laid_decides, readable_decides, rise_decides}
-use Rattle.survey.specs.DecideTasks.{live_decides, range_decides, reserved_decides, slot_decides, task_decides}
-use Rattle.survey.specs.Logs.{stood_live}
+use Rattle.survey.proofs.Deciding.{decide_all, decide_and, decide_as, decide_eq, decide_le, decide_lt, decide_never, decide_only, decide_some, decide_test, decide_three}
+use Rattle.survey.proofs.DecideBlocks.{apart_decides, below_decides, filling_decides, laid_decides, readable_decides, rise_decides}
+use Rattle.survey.proofs.DecideTasks.{live_decides, range_decides, reserved_decides, slot_decides, task_decides}
+use Rattle.survey.proofs.LogRules.{stood_live}
 use Rattle.survey.specs.Rules.{Lives, Rule2, Rule3, Rule4, Rule5, Rule6, Rule7, shown, slot, task, under}
 use Rattle.survey.specs.Whole.{live_stood}
 use Rattle.rulebook.specs.declared.Stage.TheVariants as stage

@@ -1,5 +1,4 @@
 -- What is computed of a block decides what the rules say of it: its logs, and how its words are laid out.
--- Rests on Broken and Decide.
 use Rattle.std.specs.Prelude.{◌<◌, ℕ, Bool, List, [], ◌≡◌, ltb, length}
 use Rattle.std.proofs.Common.{not-suc-le-zero, ltb-false, ltb-true}
 use Rattle.std.proofs.Math.ListN.{get_or-eq_default}
@@ -12,7 +11,7 @@ use Rattle.rulebook.specs.State.{Block, log_at}
 use Rattle.rulebook.specs.Tests.{by_test}
 use Rattle.theorems.specs.Terms.{version_at}
 use Rattle.survey.specs.Holds.{all_apart, all_below, all_rise, every_entry, every_place, filling_in, laid_in, readable_in}
-use Rattle.survey.specs.Decide.{decide_all, decide_and, decide_as, decide_eq, decide_le, decide_lt, decide_only, decide_test}
+use Rattle.survey.proofs.Deciding.{decide_all, decide_and, decide_as, decide_eq, decide_le, decide_lt, decide_only, decide_test}
 use Rattle.survey.specs.Rules.{Readable}
 
 pub sized_decides : (n : ℕ) (w : List ℕ) → Decides (is_block n w) (Sized n w)

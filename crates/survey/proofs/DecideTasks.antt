@@ -1,5 +1,4 @@
 -- What is computed of a task and of a slot decides what rule 7 says of them: ranges, paces, and each stage's own facts.
--- Rests on Broken, Decide and DecideBlocks.
 use Rattle.std.specs.Prelude.{◌*◌, ◌+◌, ◌-◌, ◌<◌, ℕ, List, [], ◌∷◌, ◌≡◌, refl}
 use Rattle.std.proofs.lemmas.Bool.{false≢true}
 use Rattle.std.proofs.Common.{true≢false, sym, arith}
@@ -22,8 +21,8 @@ use Rattle.rules.specs.Rules.{Fills, Gets, InHand, Seeks, TaskRule, ToAppend, To
 use Rattle.theorems.specs.Prices.Digits.{left_of}
 use Rattle.theorems.specs.Terms.{digits, version_at, entries}
 use Rattle.survey.specs.Holds.{bare_hand, bare_task, fills_to, gets_in, in_hand, interior, is_reserved, on_cell, on_hand, pace_holds, range_holds, seeks_in, slot_holds, task_holds, to_append, to_write, unspent}
-use Rattle.survey.specs.Decide.{decide_all, decide_always, decide_and, decide_as, decide_eq, decide_five, decide_le, decide_lt, decide_never, decide_not, decide_only, decide_some, decide_test, decide_three}
-use Rattle.survey.specs.DecideBlocks.{below_decides, every_entry_lem}
+use Rattle.survey.proofs.Deciding.{decide_all, decide_always, decide_and, decide_as, decide_eq, decide_five, decide_le, decide_lt, decide_never, decide_not, decide_only, decide_some, decide_test, decide_three}
+use Rattle.survey.proofs.DecideBlocks.{below_decides, every_entry_lem}
 use Rattle.rulebook.specs.declared.Stage.TheVariants as stage
 use Rattle.rulebook.specs.declared.Reading.TheVariants as reading
 use Rattle.rulebook.specs.declared.Status.TheVariants as status

@@ -1,6 +1,5 @@
 -- Rule 3's walk over blocks, cells and entries: what holds at each of its loops, and what each way on or out of them owes.
--- Rests on Logs and the block's marks.
-use Rattle.std.specs.Prelude.{◌+◌, ◌-◌, ◌<◌, ◌≤◌, ℕ, Bool, false, not, true, List, ◌≡◌, refl, eqb, ltb, get_or, length, replicate, set}
+use Rattle.std.specs.Prelude.{◌+◌, ◌-◌, ◌<◌, ◌≤◌, ℕ, Bool, false, not, true, List, ◌≡◌, eqb, ltb, get_or, length, replicate, set}
 use Rattle.std.proofs.Common.{true≢false, inl, ⊎_elim, ◌∙◌, ap, subst, sym, arith, eqb-true, le-ltb, lt-ltb, ltb-false, ltb-true}
 use Rattle.std.proofs.lemmas.List.{get_or-replicate, length-replicate}
 use Rattle.std.proofs.lemmas.Bool.{eqb-false, not-false, not-true}
@@ -12,8 +11,9 @@ use Rattle.layout.specs.Places.{Spans, block_part}
 use Rattle.rulebook.specs.State.{stood}
 use Rattle.rulebook.specs.Tests.{by_test}
 use Rattle.survey.specs.Broken.{rule3}
-use Rattle.survey.specs.Decided.{decides_3}
-use Rattle.survey.specs.Logs.{BlockRule, EntryRule, LogRule, blocks-three, climb, rule_short, stamp_of, stood-version, three-blocks}
+use Rattle.survey.proofs.Decided.{decides_3}
+use Rattle.survey.specs.Logs.{BlockRule, EntryRule, LogRule, stamp_of}
+use Rattle.survey.proofs.LogRules.{blocks-three, climb, rule_short, stood-version, three-blocks}
 use Rattle.survey.specs.Rules.{Rule2, Rule3, shown}
 
 -- how many marks there are: one for each version below the greatest V
@@ -82,9 +82,6 @@ module _ (d : Sizes) (p : List ℕ) where
 
   -- ---- blocks
 
-  pub blocks_start : BlocksAt 0 true
-  blocks_start = record { yes = refl; most = omega arith; blocks = λ x l. absurd (omega arith) }
-
   pub blocks_skip : (k : ℕ) (kept b : Bool) → BlocksAt k kept → b ≡ stood (shown d p) k → not b ≡ true → k < d.b → BlocksAt (k + 1) kept
   blocks_skip k kept b s e q l =
       record {
@@ -143,23 +140,6 @@ module _ (d : Sizes) (p : List ℕ) where
         let x = s.on.version in
         omega arith)
 
-    module _ (m : ℕ) (l : i < d.n) (e : m ≡ length_at k i) where
-      pub entries-start : m ≤ v → EntriesAt k v i m marks 0 0 kept
-      entries-start q =
-          record {
-            yes = s.yes;
-            on = s.on;
-            cell = l;
-            is = e;
-            short = q;
-            most = omega arith;
-            logs = s.logs;
-            entries = λ x o. absurd (omega arith);
-            first = λ _. refl;
-            last = λ o. absurd (omega arith);
-            met = s.met;
-          }
-
   -- ---- a log
 
   module _ (k v i m : ℕ) (marks : List ℕ) (least j : ℕ) (kept : Bool) (s : EntriesAt k v i m marks least j kept) where
@@ -178,9 +158,6 @@ module _ (d : Sizes) (p : List ℕ) where
       where
         here : LogRule d.n (words_of k) i
         here = record { entries = λ x o. s.entries x (let e = s.is in omega arith) }
-
-    pub stamp_within : j < m → j ≤ d.n
-    stamp_within l = let q = s.short in let z = s.on.most in omega arith
 
     module _ (at : ℕ) (l : j < m) (e : at ≡ stamp_in d.n (words_of k) i j) where
       in_log : j < length_at k i
@@ -214,9 +191,6 @@ module _ (d : Sizes) (p : List ℕ) where
 
         pub stamp_marked : at < length marks
         stamp_marked = let y = s.on.small in let z = s.met.long in omega arith
-
-        pub stamp_next : at < 4294967295
-        stamp_next = let y = s.on.small in omega arith
 
         pub broken-rise : at < least → false ≡ rule3 d p
         broken-rise o =
@@ -271,4 +245,4 @@ module _ (d : Sizes) (p : List ℕ) where
                     rise = λ g. (let z = s.last g in let y = stamp_is inside in omega arith);
                   }
 
-pub ruleset walks = (blocks_start, blocks_skip, blocks_end, logs-start, logs-end, logs_broken, entries-start, entries-end, stamp_within, broken-below, stamp_small, stamp_marked, stamp_next, broken-rise, broken_twice, entries-step)
+pub ruleset walks = (blocks_skip, blocks_end, logs-start, logs-end, logs_broken, entries-end, broken-below, broken-rise, broken_twice, entries-step)

@@ -1,0 +1,13 @@
+pub mod Deciding
+pub mod DecideBlocks
+pub mod DecideTasks
+pub mod LogRules
+pub mod Decided
+pub mod Finding
+pub mod Ways
+pub mod Holding
+pub mod Marking
+pub mod Walking
+pub mod Tallies
+pub mod Chaining
+pub mod Meeting
