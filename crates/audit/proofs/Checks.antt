@@ -8,7 +8,7 @@ use Rattle.layout.specs.Header.{header_of}
 use Rattle.layout.specs.Places.{Spans}
 use Rattle.layout.specs.Sizing.{header-spans}
 use Rattle.survey.specs.Broken.{broken_in, broken_of, broken_under, rule2, rule3, rule4, rule5, rule6, rule7}
-use Rattle.survey.specs.Decided.{decides_2, decides_3, decides_4, decides_5, decides_6, decides_7}
+use Rattle.survey.proofs.Decided.{decides_2, decides_3, decides_4, decides_5, decides_6, decides_7}
 use Rattle.audit.specs.First.{First, first-all, first-before, first-broken, first-end, first_least, first_next, first_one, first-zero, rule_of}
 use Rattle.survey.specs.Rules.{Rule1, Rule2, Rule3, Rule4, Rule5, Rule6, Rule7}
 use Rattle.survey.specs.Whole.{header-one, one-header, rest-sound, sound-rest}

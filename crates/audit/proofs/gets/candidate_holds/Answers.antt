@@ -1,5 +1,5 @@
 use Rattle.std.proofs.Common.{arith}
-use Rattle.audit.specs.Gets.{candidate_is}
+use Rattle.audit.proofs.Seeking.{candidate_is}
 use Rattle.audit.proofs.gets.candidate_holds.Goals as goal
 use Rattle.audit.proofs.gets.candidate_holds.Goals.{else-hand-entries, then-hand-entries}
 

@@ -1,5 +1,5 @@
 use Rattle.std.proofs.Common.{rules}
-use Rattle.survey.specs.Stands.{mark-start}
+use Rattle.survey.proofs.Marking.{mark-start}
 use Rattle.audit.proofs.order.check.Goals as goal
 
 pub mark_stood-requires : goal.mark_stood-requires

@@ -5,7 +5,7 @@ use Rattle.std.proofs.Common.{◌∙◌, ap, sym}
 use Rattle.rulebook.specs.declared.Sizes.{Sizes}
 use Rattle.layout.specs.Header.{header_of}
 use Rattle.survey.specs.Broken.{broken_in, broken_of, broken_under, rule2, rule3, rule6}
-use Rattle.survey.specs.Decided.{decides_2, decides_3, decides_6}
+use Rattle.survey.proofs.Decided.{decides_2, decides_3, decides_6}
 use Rattle.survey.specs.Rules.{Rule2, Rule3, Rule6}
 
 module _ (p : List ℕ) where

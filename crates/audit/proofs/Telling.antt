@@ -7,7 +7,7 @@ use Rattle.layout.specs.Pool.{view_of}
 use Rattle.rules.specs.Paced.{Paced}
 use Rattle.theorems.specs.Terms.{all_to}
 use Rattle.survey.specs.Broken.{facts_at, slot_sound, task_sound}
-use Rattle.survey.specs.Decided.{facts_decide, rows_decide, slots_decide}
+use Rattle.survey.proofs.Decided.{facts_decide, rows_decide, slots_decide}
 use Rattle.audit.specs.Facts.{Known}
 use Rattle.audit.specs.Fillers.{Facts}
 use Rattle.survey.specs.Rules.{Rule2, Rule3, Rule6, shown}

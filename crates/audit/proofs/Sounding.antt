@@ -16,16 +16,20 @@ use Rattle.layout.specs.Ranges.{slot_row}
 use Rattle.layout.specs.Rows.{slot_fits, slot_read, slot_row_of, task_read}
 use Rattle.layout.specs.View.{view_slot_at}
 use Rattle.rulebook.specs.Sizes.{last_serial}
-use Rattle.rulebook.specs.State.{is_live}
+use Rattle.rulebook.specs.State.{is_live, writes}
 use Rattle.rulebook.specs.Tests.{by_test}
 use Rattle.rules.specs.Paced.{Paced, SlotRange, TaskRange}
-use Rattle.survey.specs.Broken.{slot_sound}
+use Rattle.survey.specs.Broken.{slot_sound, writer_apart}
+use Rattle.survey.specs.Held.{alone_at}
+use Rattle.survey.proofs.Holding.{alone_held}
+use Rattle.theorems.specs.Terms.{all_to}
+use Rattle.audit.specs.Written.{written_by}
 use Rattle.survey.specs.Holds.{laid_in, slot_holds}
-use Rattle.survey.specs.Decide.{same}
-use Rattle.survey.specs.DecideBlocks.{laid_decides}
-use Rattle.survey.specs.DecideTasks.{live_decides, slot_decides}
+use Rattle.survey.proofs.Deciding.{same}
+use Rattle.survey.proofs.DecideBlocks.{laid_decides}
+use Rattle.survey.proofs.DecideTasks.{live_decides, slot_decides}
 use Rattle.survey.specs.Rules.{Lives, Rule2, shown, slot}
-use Rattle.survey.specs.Ways.{slot_as, task_as, version-here}
+use Rattle.survey.proofs.Ways.{slot_as, task_as, version-here}
 use Rattle.rulebook.specs.declared.Status.TheVariants as status
 use Rattle.rulebook.specs.Codes.{damaged}
 use Rattle.rulebook.specs.declared.Damaged.{Damaged}
@@ -43,7 +47,11 @@ module _ (d : Sizes) (p : List ℕ) (t : ℕ) (k : Task) (e : k ≡ task_read (t
   pub writer-next : Spans d p → k.number + 1 < 4294967296
   writer-next sp = let z = in_range.number_within in let y = sp.cells in omega arith
 
-pub ruleset writers = (task_as, version-here, writer-block, writer-next)
+pub alone_writer : (d : Sizes) (p : List ℕ) (x : Task) (t n : ℕ) → all_to (alone_at d p written_by t x.block) n ≡ all_to (writer_apart d p x t) n
+unfolding written_by writer_apart
+alone_writer d p x t n = alone_held d p x t writes (λ y. y.block) n
+
+pub ruleset writers = (task_as, version-here, writer-block, writer-next, alone_writer)
 
 -- ---- slots
 
