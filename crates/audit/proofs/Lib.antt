@@ -1,2 +1,10 @@
+pub mod Sounding
+pub mod Filling
+pub mod Seeking
+pub mod Logging
+pub mod Knowing
+pub mod Pacing
+pub mod Telling
+pub mod Ordering
 pub mod Checks
 pub mod Kept

@@ -1,11 +1,9 @@
 pub mod Rule
 pub mod First
 pub mod Check
-pub mod Seven
+pub mod Written
 pub mod Fillers
 pub mod Gets
 pub mod LogsDone
 pub mod Facts
 pub mod Paces
-pub mod Parts
-pub mod Order

@@ -23,7 +23,7 @@ fn is_unspent(pool: Pool<'_>, task: Task) -> bool
 }
 
 // A set by a copy: V is above the version that it copies.
-#[tactic(auto, unfolding(crate::specs::Facts::done_at), using(crate::specs::Facts::facts))]
+#[tactic(auto, unfolding(crate::specs::Facts::done_at), using(crate::proofs::Knowing::facts))]
 fn copy_begun(pool: Pool<'_>, task: Task) -> bool
     requires { Ranged pool.sizes pool.words.now task }
     ensures { result ≡ done_at pool.entry.sizes pool.entry.words.now stage.TakeCopy task }
@@ -32,7 +32,7 @@ fn copy_begun(pool: Pool<'_>, task: Task) -> bool
 }
 
 // It has filled its block up to the cell in hand.
-#[tactic(auto, unfolding(crate::specs::Facts::done_at), using(crate::specs::Facts::facts))]
+#[tactic(auto, unfolding(crate::specs::Facts::done_at), using(crate::proofs::Knowing::facts))]
 fn copy_filled(pool: Pool<'_>, task: Task) -> bool
     requires { Ranged pool.sizes pool.words.now task }
     ensures { result ≡ done_at pool.entry.sizes pool.entry.words.now stage.FillCopy task }
@@ -40,7 +40,7 @@ fn copy_filled(pool: Pool<'_>, task: Task) -> bool
     copy_begun(pool, task) && fills_to(pool, task.hand.cell, task)
 }
 
-#[tactic(auto, unfolding(crate::specs::Facts::done_at), using(crate::specs::Facts::facts))]
+#[tactic(auto, unfolding(crate::specs::Facts::done_at), using(crate::proofs::Knowing::facts))]
 fn stage_done(pool: Pool<'_>, task: Task) -> bool
     requires { Stands pool.sizes pool.words.now task.stage task }
     ensures { result ≡ done_at pool.entry.sizes pool.entry.words.now task.stage task }
@@ -60,7 +60,7 @@ fn stage_done(pool: Pool<'_>, task: Task) -> bool
     }
 }
 
-#[tactic(auto, unfolding(survey::specs::Broken::facts_at, crate::specs::Facts::done_at), using(crate::specs::Facts::facts))]
+#[tactic(auto, unfolding(survey::specs::Broken::facts_at, crate::specs::Facts::done_at), using(crate::proofs::Knowing::facts))]
 fn facts_at(pool: Pool<'_>, index: u32) -> bool
     requires known { Known pool.sizes pool.words.now }
     requires there { index < pool.sizes.t }

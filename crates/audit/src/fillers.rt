@@ -7,7 +7,7 @@ ghost use Rattle.audit.specs.Fillers.{Facts};
 use pool::Pool;
 use survey::all_below;
 
-#[tactic(auto, unfolding(survey::specs::Broken::filling_at), using(crate::specs::Fillers::fillers))]
+#[tactic(auto, unfolding(survey::specs::Broken::filling_at), using(crate::proofs::Filling::fillers))]
 fn filling_at(pool: Pool<'_>, index: u32) -> bool
     requires facts { Facts pool.sizes pool.words.now }
     requires there { index < pool.sizes.t }

@@ -11,7 +11,7 @@ use pool::Pool;
 use rulebook::{Reading, Task};
 
 // The task's candidate has the version of the entry at hi, in a log of so many entries.
-#[tactic(auto, unfolding(crate::specs::Gets::candidate_in), using(crate::specs::Gets::gets))]
+#[tactic(auto, unfolding(crate::specs::Gets::candidate_in), using(crate::proofs::Seeking::gets))]
 fn candidate_holds(pool: Pool<'_>, task: Task, entries: u32) -> bool
     requires log { Log pool.sizes pool.words.now task.block task.hand.cell }
     requires all { entries ≡ length (log_in pool.sizes pool.words.now task.block task.hand.cell) }
@@ -24,7 +24,7 @@ fn candidate_holds(pool: Pool<'_>, task: Task, entries: u32) -> bool
 }
 
 // The task's search: its bounds lie in the log, and what it has passed by is older.
-#[tactic(auto, unfolding(survey::specs::Holds::seeks_in, crate::specs::Gets::candidate_in, crate::specs::Gets::older_in), using(crate::specs::Gets::gets))]
+#[tactic(auto, unfolding(survey::specs::Holds::seeks_in, crate::specs::Gets::candidate_in, crate::specs::Gets::older_in), using(crate::proofs::Seeking::gets))]
 fn seeks_in(pool: Pool<'_>, task: Task) -> bool
     requires { Log pool.sizes pool.words.now task.block task.hand.cell }
     ensures { result ≡ seeks_in (log_in pool.entry.sizes pool.entry.words.now task.block task.hand.cell) task.number task.hand }
@@ -38,7 +38,7 @@ fn seeks_in(pool: Pool<'_>, task: Task) -> bool
 }
 
 // The get that the task has in hand.
-#[tactic(auto, unfolding(survey::specs::Holds::gets_in, crate::specs::Gets::log_in), using(crate::specs::Gets::gets))]
+#[tactic(auto, unfolding(survey::specs::Holds::gets_in, crate::specs::Gets::log_in), using(crate::proofs::Seeking::gets))]
 pub fn gets_in(pool: Pool<'_>, task: Task, reading: Reading) -> bool
     requires block { task.block < pool.sizes.b }
     requires logs { Walkable pool.sizes.n (block_part pool.words.now pool.sizes task.block) }

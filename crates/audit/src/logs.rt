@@ -7,7 +7,7 @@ use pool::Pool;
 use survey::all_below;
 
 // The entry is older than the number.
-#[tactic(auto, unfolding(crate::specs::Gets::older_in), using(crate::specs::Gets::gets))]
+#[tactic(auto, unfolding(crate::specs::Gets::older_in), using(crate::proofs::Seeking::gets))]
 fn is_older(pool: Pool<'_>, block: u32, cell: u32, number: u32, index: u32) -> bool
     requires log { Log pool.sizes pool.words.now block cell }
     requires there { index < length (log_in pool.sizes pool.words.now block cell) }

@@ -18,7 +18,7 @@ use survey::tally::entries_of;
 // ---- a block that is filled
 
 // The cell's log is empty.
-#[tactic(auto, unfolding(crate::specs::LogsDone::empty_at), using(crate::specs::LogsDone::log_long))]
+#[tactic(auto, unfolding(crate::specs::LogsDone::empty_at), using(crate::proofs::Logging::log_long))]
 fn is_empty(pool: Pool<'_>, block: u32, cell: u32) -> bool
     requires block { block < pool.sizes.b }
     requires cell { cell < pool.sizes.n }
@@ -37,7 +37,7 @@ fn all_empty(pool: Pool<'_>, block: u32, cells: u32) -> bool
 }
 
 // The task has filled so many cells of its block.
-#[tactic(auto, unfolding(survey::specs::Holds::fills_to, crate::specs::LogsDone::empty_at, crate::specs::Gets::log_in), using(crate::specs::LogsDone::dones))]
+#[tactic(auto, unfolding(survey::specs::Holds::fills_to, crate::specs::LogsDone::empty_at, crate::specs::Gets::log_in), using(crate::proofs::Logging::dones))]
 pub fn fills_to(pool: Pool<'_>, cells: u32, task: Task) -> bool
     requires block { task.target < pool.sizes.b }
     requires cells { cells ≤ pool.sizes.n }
@@ -49,7 +49,7 @@ pub fn fills_to(pool: Pool<'_>, cells: u32, task: Task) -> bool
 // ---- the versions in a block that can be read
 
 // Those in the cell's log are below the number.
-#[tactic(auto, unfolding(crate::specs::LogsDone::cell_below), using(crate::specs::LogsDone::log_long))]
+#[tactic(auto, unfolding(crate::specs::LogsDone::cell_below), using(crate::proofs::Logging::log_long))]
 fn cell_below(pool: Pool<'_>, block: u32, number: u32, cell: u32) -> bool
     requires counts { Counts pool.sizes pool.words.now block }
     requires cell { cell < pool.sizes.n }
@@ -59,7 +59,7 @@ fn cell_below(pool: Pool<'_>, block: u32, number: u32, cell: u32) -> bool
 }
 
 // Those in every log are below the number.
-#[tactic(auto, using(crate::specs::LogsDone::dones))]
+#[tactic(auto, using(crate::proofs::Logging::dones))]
 fn block_below(pool: Pool<'_>, block: u32, number: u32) -> bool
     requires { Counts pool.sizes pool.words.now block }
     ensures { result ≡ all_below (block_at (shown pool.entry.sizes pool.entry.words.now) block) number }
@@ -93,7 +93,7 @@ fn others_below(pool: Pool<'_>, block: u32, set: u32, number: u32) -> bool
 // ---- a set in place
 
 // Before its append: every entry is older, and there are few.
-#[tactic(auto, unfolding(survey::specs::Holds::to_append), using(crate::specs::LogsDone::dones))]
+#[tactic(auto, unfolding(survey::specs::Holds::to_append), using(crate::proofs::Logging::dones))]
 pub fn to_append(pool: Pool<'_>, task: Task) -> bool
     requires block { task.block < pool.sizes.b }
     requires logs { Walkable pool.sizes.n (block_part pool.words.now pool.sizes task.block) }
@@ -105,7 +105,7 @@ pub fn to_append(pool: Pool<'_>, task: Task) -> bool
 }
 
 // After it: of the logs only that of its cell has an entry that is not.
-#[tactic(auto, using(crate::specs::LogsDone::dones))]
+#[tactic(auto, using(crate::proofs::Logging::dones))]
 pub fn to_write(pool: Pool<'_>, task: Task) -> bool
     requires block { task.block < pool.sizes.b }
     requires logs { Walkable pool.sizes.n (block_part pool.words.now pool.sizes task.block) }

@@ -57,7 +57,7 @@ fn require(holds: bool, rule: Rule) -> Result<(), Rule>
 }
 
 // Rules 2 to 7, of a pool on whose marked blocks live handles stand.
-#[tactic(auto, unfolding(survey::specs::Broken::broken_of), using(crate::specs::Order::holds))]
+#[tactic(auto, unfolding(survey::specs::Broken::broken_of), using(crate::proofs::Ordering::holds))]
 fn rules_hold(pool: Pool<'_>, stood: &[u32]) -> Result<(), Rule>
     requires { Marked pool.sizes pool.words.now stood.now }
     ensures { rule_in result ≡ broken_of pool.entry.sizes pool.entry.words.now }
@@ -71,7 +71,7 @@ fn rules_hold(pool: Pool<'_>, stood: &[u32]) -> Result<(), Rule>
 }
 
 /// Whether the words are a sound store; where they are not, the first of document 01's rules that they break.
-#[tactic(auto, using(crate::specs::Order::checks))]
+#[tactic(auto, using(crate::proofs::Ordering::checks))]
 pub fn check(words: &[u32]) -> Result<(), Rule>
     ensures { rule_in result ≡ broken_in words.now }
 {

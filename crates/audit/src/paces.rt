@@ -15,7 +15,7 @@ use survey::all_below;
 // ---- a get in hand
 
 // How many binary digits the number has.
-#[tactic(auto, using(crate::specs::Paces::digits_as))]
+#[tactic(auto, using(crate::proofs::Pacing::digits_as))]
 fn digits_of(number: u32) -> u32
     ensures { (result ≡ digits number) × (result ≤ 32) }
 {
@@ -45,7 +45,7 @@ fn ends_within(cells: u32, reading: Reading, task: Task, most: u32) -> bool
 // ---- the most steps
 
 // Of a get.
-#[tactic(auto, using(crate::specs::Paces::mosts))]
+#[tactic(auto, using(crate::proofs::Pacing::mosts))]
 fn get_most(cells: u32) -> u32
     requires { cells ≤ most_cells }
     ensures { (result ≡ 3 + digits cells) × (result ≤ 16) }
@@ -54,7 +54,7 @@ fn get_most(cells: u32) -> u32
 }
 
 // Of a copy of so many cells.
-#[tactic(auto, using(crate::specs::Paces::mosts))]
+#[tactic(auto, using(crate::proofs::Pacing::mosts))]
 fn copy_most(cells: u32, copied: u32) -> u32
     requires { (cells ≤ most_cells) × (copied ≤ cells) }
     ensures { (result ≡ copy_steps cells copied) × (result ≤ 69634) }
@@ -71,7 +71,7 @@ fn next_most(cells: u32, copied: u32) -> u32
 }
 
 // Of a page from one cell to another.
-#[tactic(auto, using(crate::specs::Paces::mosts))]
+#[tactic(auto, using(crate::proofs::Pacing::mosts))]
 fn page_most(cells: u32, from: u32, to: u32) -> u32
     requires { (cells ≤ most_cells) × (from ≤ to) × (to < cells) }
     ensures { result ≡ (to - from + 1) * (3 + digits cells) }
@@ -108,7 +108,7 @@ fn pace_at(sizes: Sizes, task: Task) -> bool
 }
 
 // A row that can be read has its code and is in its ranges; a row in its ranges and at its pace can be read.
-#[tactic(auto, using(crate::specs::Paces::rows))]
+#[tactic(auto, using(crate::proofs::Pacing::rows))]
 fn task_sound(pool: Pool<'_>, index: u32) -> bool
     requires { index < pool.sizes.t }
     ensures { result ≡ task_sound pool.entry.sizes pool.entry.words.now index }

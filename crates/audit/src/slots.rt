@@ -23,7 +23,7 @@ fn slot_holds(slot: Slot) -> bool
     }
 }
 
-#[tactic(auto, using(crate::specs::Seven::slots))]
+#[tactic(auto, using(crate::proofs::Sounding::slots))]
 fn slot_sound(pool: Pool<'_>, slot: u32) -> bool
     requires two { Rule2 pool.sizes pool.words.now }
     requires there { slot < pool.sizes.h }
@@ -40,7 +40,7 @@ pub fn slots_sound(pool: Pool<'_>) -> bool
     all_below(pool.sizes.h, move |slot| slot_sound(pool, slot))
 }
 
-#[tactic(auto, unfolding(survey::specs::Broken::laid_at), using(survey::proofs::Marking::told, crate::specs::Seven::laid_is))]
+#[tactic(auto, unfolding(survey::specs::Broken::laid_at), using(survey::proofs::Marking::told, crate::proofs::Sounding::laid_is))]
 fn laid_at(pool: Pool<'_>, stood: &[u32], block: u32) -> bool
     requires marks { Marked pool.sizes pool.words.now stood.now }
     requires there { block < pool.sizes.b }

@@ -1,29 +1,22 @@
 // Rule 7: sets in place, past their exchange.
-ghost use Rattle.std.specs.Prelude.{◌≡◌, ◌<◌};
+ghost use Rattle.std.specs.Prelude.{◌≡◌, ◌<◌, Option};
 ghost use Rattle.theorems.specs.Terms.{all_to};
 ghost use Rattle.rules.specs.Paced.{Paced};
 ghost use Rattle.survey.specs.Rules.{shown};
-ghost use Rattle.survey.specs.Broken.{writer_apart, not_above, writer_at};
+ghost use Rattle.survey.specs.Broken.{not_above, writer_at};
+ghost use Rattle.audit.specs.Written.{written_by};
 
 use pool::Pool;
 use rulebook::Task;
 use survey::all_below;
+use survey::holds::alone;
 
-#[tactic(auto, unfolding(survey::specs::Broken::writer_apart), using(survey::proofs::Ways::task_as))]
-fn writer_apart(pool: Pool<'_>, writer: Task, index: u32, other_index: u32) -> bool
-    requires { other_index < pool.sizes.t }
-    ensures { result ≡ writer_apart pool.entry.sizes pool.entry.words.now writer index other_index }
+// The block that the task writes in place.
+#[tactic(auto, unfolding(crate::specs::Written::written_by))]
+fn written_by(task: Task) -> Option<u32>
+    ensures { result ≡ written_by task }
 {
-    let other = pool.raw_task(other_index);
-    !other.stage.writes_in_place() || writer.block != other.block || index == other_index
-}
-
-fn writer_alone(pool: Pool<'_>, writer: Task, index: u32) -> bool
-    ensures { result ≡ all_to (writer_apart pool.entry.sizes pool.entry.words.now writer index) pool.entry.sizes.t }
-{
-    all_below(pool.sizes.t, move |other_index| {
-        writer_apart(pool, writer, index, other_index)
-    })
+    task.stage.writes_in_place().then_some(task.block)
 }
 
 #[tactic(auto, unfolding(survey::specs::Broken::not_above), using(survey::proofs::Ways::slot_as))]
@@ -35,25 +28,20 @@ fn not_above(pool: Pool<'_>, writer: Task, slot: u32) -> bool
     !handle.is_live() || handle.block != writer.block || handle.number <= writer.number
 }
 
-fn none_above(pool: Pool<'_>, writer: Task) -> bool
-    ensures { result ≡ all_to (not_above pool.entry.sizes pool.entry.words.now writer) pool.entry.sizes.h }
-{
-    all_below(pool.sizes.h, move |slot| not_above(pool, writer, slot))
-}
-
-#[tactic(auto, unfolding(survey::specs::Broken::writer_at), using(crate::specs::Seven::writers))]
-fn writer_at(pool: Pool<'_>, index: u32) -> bool
+// A writer is alone on its block, has raised V, and has no handle above it.
+#[tactic(auto, unfolding(survey::specs::Broken::writer_at, crate::specs::Written::written_by), using(crate::proofs::Sounding::writers))]
+fn writer_at(pool: Pool<'_>, task: u32) -> bool
     requires paced { Paced (shown pool.sizes pool.words.now) }
-    requires there { index < pool.sizes.t }
-    ensures { result ≡ writer_at pool.entry.sizes pool.entry.words.now index }
+    requires there { task < pool.sizes.t }
+    ensures { result ≡ writer_at pool.entry.sizes pool.entry.words.now task }
 {
-    let task = pool.raw_task(index);
-    if !task.stage.writes_in_place() {
+    let writer = pool.raw_task(task);
+    let Some(block) = written_by(writer) else {
         return true;
-    }
-    pool.raw_version(task.block) == task.number + 1
-        && writer_alone(pool, task, index)
-        && none_above(pool, task)
+    };
+    pool.raw_version(block) == writer.number + 1
+        && alone(pool, task, block, written_by)
+        && all_below(pool.sizes.h, move |slot| not_above(pool, writer, slot))
 }
 
 // Where every row is in its ranges.
@@ -61,5 +49,5 @@ pub fn writers_hold(pool: Pool<'_>) -> bool
     requires { Paced (shown pool.sizes pool.words.now) }
     ensures { result ≡ all_to (writer_at pool.entry.sizes pool.entry.words.now) pool.entry.sizes.t }
 {
-    all_below(pool.sizes.t, move |index| writer_at(pool, index))
+    all_below(pool.sizes.t, move |task| writer_at(pool, task))
 }

@@ -113,6 +113,7 @@ impl Pool<'_> {
 
     /// The task as a call sees it.
     #[tactic(auto, unfolding(layout::specs::Pool::task_seen, layout::specs::Places::task_part, layout::specs::Parts::part, layout::specs::Parts::splice), using(layout::specs::Lends::lends))]
+    #[inline(always)]
     pub fn task(self, task: u32) -> Result<Task, Damaged>
         requires { task < self.sizes.t }
         ensures { result ≡ task_seen self.entry.words.now self.entry.sizes task }
@@ -169,6 +170,7 @@ impl PoolMut<'_> {
 
     /// Writes the task's row.
     #[tactic(auto, using(layout::specs::Lends::lends), unfolding(layout::specs::Parts::part, layout::specs::Parts::splice))]
+    #[inline(always)]
     pub fn put_task(&mut self, task: u32, value: Task)
         requires { task < self.old.sizes.t }
         ensures words { self.new.words.now ≡ put_task self.old.words.now self.old.sizes task value }

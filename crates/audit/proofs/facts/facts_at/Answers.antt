@@ -1,4 +1,4 @@
-use Rattle.audit.specs.Facts.{facts_stands}
+use Rattle.audit.proofs.Knowing.{facts_stands}
 use Rattle.audit.proofs.facts.facts_at.Goals as goal
 
 pub stage_done-requires : goal.stage_done-requires

@@ -1,6 +1,6 @@
 use Rattle.std.proofs.Common.{rules, ◌≡◌, ◌↔◌}
 use Rattle.std.specs.Prelude.{IsTrue}
-use Rattle.audit.specs.Paces.{idle-is}
+use Rattle.audit.proofs.Pacing.{idle-is}
 use Rattle.audit.proofs.paces.pace_at.Goals as goal
 
 pub returns-in-Idle : goal.returns-in-Idle

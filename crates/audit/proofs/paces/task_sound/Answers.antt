@@ -1,4 +1,4 @@
-use Rattle.audit.specs.Paces.{row-ranged}
+use Rattle.audit.proofs.Pacing.{row-ranged}
 use Rattle.audit.proofs.paces.task_sound.Goals as goal
 
 pub is_ok_and-requires : goal.is_ok_and-requires

@@ -1,5 +1,5 @@
 use Rattle.std.proofs.Common.{arith}
-use Rattle.audit.specs.Parts.{part-known, part-paced, part-told}
+use Rattle.audit.proofs.Telling.{part-known, part-paced, part-told}
 use Rattle.audit.proofs.seven.rule_seven.Goals as goal
 
 pub writers_hold-requires : goal.writers_hold-requires

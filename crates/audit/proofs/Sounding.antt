@@ -1,6 +1,6 @@
 -- Rule 7's functions on rows and blocks: what a task's ranges give, which rows can be read, and which words are laid out.
 -- Rests on Broken, Ways and the deciding of each part.
-use Rattle.std.specs.Prelude.{◌+◌, ◌<◌, ◌≤◌, ℕ, Bool, false, true, List, ltb, get_or, Err, Ok, Result}
+use Rattle.std.specs.Prelude.{◌+◌, ◌<◌, ◌≤◌, ℕ, Bool, ◌&&◌, eqb, false, true, List, ltb, get_or, Err, None, Ok, Option, Result, Some}
 use Rattle.std.proofs.Common.{◌∙◌, ap, sym}
 use Rattle.std.proofs.Math.Path.{◌≡◌, subst}
 use native.Mathlib.Omega.{arith}
@@ -10,16 +10,21 @@ use Rattle.rulebook.specs.declared.Slot.{Slot}
 use Rattle.rulebook.specs.declared.Task.{Task}
 use Rattle.block.specs.Sound.{Laid}
 use Rattle.block.specs.Walk.{Decides}
-use Rattle.layout.specs.Places.{Spans, slot_part, task_part}
+use Rattle.block.specs.Layout.{version_of}
+use Rattle.layout.specs.Places.{Spans, block_part, slot_part, task_part}
 use Rattle.layout.specs.Pool.{slot_in, view_of}
 use Rattle.layout.specs.Ranges.{slot_row}
 use Rattle.layout.specs.Rows.{slot_fits, slot_read, slot_row_of, task_read}
 use Rattle.layout.specs.View.{view_slot_at}
 use Rattle.rulebook.specs.Sizes.{last_serial}
-use Rattle.rulebook.specs.State.{is_live}
+use Rattle.rulebook.specs.State.{is_live, writes}
 use Rattle.rulebook.specs.Tests.{by_test}
 use Rattle.rules.specs.Paced.{Paced, SlotRange, TaskRange}
-use Rattle.survey.specs.Broken.{slot_sound}
+use Rattle.survey.specs.Broken.{not_above, slot_sound, writer_apart, writer_at}
+use Rattle.survey.specs.Held.{alone_at}
+use Rattle.survey.proofs.Holding.{alone_held}
+use Rattle.theorems.specs.Terms.{all_to}
+use Rattle.audit.specs.Written.{written_by}
 use Rattle.survey.specs.Holds.{laid_in, slot_holds}
 use Rattle.survey.proofs.Deciding.{same}
 use Rattle.survey.proofs.DecideBlocks.{laid_decides}
@@ -32,18 +37,40 @@ use Rattle.rulebook.specs.declared.Damaged.{Damaged}
 
 -- ---- writers
 
+alone_writer : (d : Sizes) (p : List ℕ) (x : Task) (t n : ℕ) → all_to (alone_at d p written_by t x.block) n ≡ all_to (writer_apart d p x t) n
+unfolding written_by writer_apart
+alone_writer d p x t n = alone_held d p x t writes (λ y. y.block) n
+
 module _ (d : Sizes) (p : List ℕ) (t : ℕ) (k : Task) (e : k ≡ task_read (task_part p d t)) (l : t < d.t) (pc : Paced (shown d p)) where
   in_range : TaskRange d k
   unfolding view_of
   in_range = subst (TaskRange d) (task_as d p t k e l) (pc.tasks t)
 
-  pub writer-block : k.block < d.b
-  writer-block = in_range.block_below
-
   pub writer-next : Spans d p → k.number + 1 < 4294967296
   writer-next sp = let z = in_range.number_within in let y = sp.cells in omega arith
 
-pub ruleset writers = (task_as, version-here, writer-block, writer-next)
+  left : writes k.stage ≡ true → (v : ℕ) → v ≡ version_of (block_part p d k.block) → writer_at d p t ≡ (eqb v (k.number + 1) && (all_to (alone_at d p written_by t k.block) d.t && all_to (not_above d p k) d.h))
+  unfolding writer_at
+  left w v h = rw (task_as d p t k e l, w, version-here d p k.block in_range.block_below v h, alone_writer d p k t d.t)
+
+  -- the block b that it writes, and what is left to ask of it
+  module _ (r : Option ℕ) (f : r ≡ written_by k) (b : ℕ) (g : r ≡ Some b) where
+    told : (writes k.stage ≡ true) × (k.block ≡ b)
+    unfolding written_by
+    told =
+        by_test (writes k.stage)
+        (λ w. let q : Some k.block ≡ Some b = rw w at (sym f ∙ g) in (w, cc))
+        (λ w. let q : None ≡ Some b = rw w at (sym f ∙ g) in let z : ◌≡◌ {A = ℕ} 0 1 = cc in absurd (omega arith))
+
+    pub writer-block : b < d.b
+    writer-block = let z = in_range.block_below in let y = told.1 in omega arith
+
+    pub writer-is : (v : ℕ) → v ≡ version_of (block_part p d b) → writer_at d p t ≡ (eqb v (k.number + 1) && (all_to (alone_at d p written_by t b) d.t && all_to (not_above d p k) d.h))
+    writer-is v h =
+        left told.0 v (h ∙ ap (λ (x : ℕ). version_of (block_part p d x)) (sym told.1))
+        ∙ ap (λ (x : ℕ). eqb v (k.number + 1) && (all_to (alone_at d p written_by t x) d.t && all_to (not_above d p k) d.h)) told.1
+
+pub ruleset writers = (task_as, writer-next, writer-block)
 
 -- ---- slots
 
