@@ -1,26 +1,23 @@
 // Blocks: a block's words are lent on as a part of the pool, and what reads or writes them sees no others.
-ghost use Rattle.std.specs.Prelude.{◌≡◌, ◌≤◌, ◌<◌};
-ghost use Rattle.layout.specs.Places.{Small, Place};
-
 use super::view::{Pool, PoolMut};
-use rulebook::{Damaged, Entry, MOST_BLOCKS, Sizes, block_words, control_words};
+use rulebook::{Damaged, Entry, MOST_BLOCKS, block_words, control_words};
 use std::ops::Range;
-
-// Where a block lies, of any that a store may have.
-#[tactic(auto, using(layout::specs::Lends::extents), unfolding(layout::specs::Parts::part, layout::specs::Parts::splice))]
-fn place(sizes: Sizes, block: u32) -> Range<usize>
-    requires { Small sizes block }
-    ensures { Place sizes block result.start result.end }
-{
-    let words = block_words(sizes.n) as usize;
-    let start = control_words(sizes.h, sizes.t) as usize + words * block as usize;
-    start..start + words
-}
 
 impl Pool<'_> {
     ghost use Rattle.std.specs.Prelude.{◌≡◌, ◌≤◌, ◌<◌, length, is_ok, IfOk, ltb};
-    ghost use Rattle.layout.specs.Places.{Place};
+    ghost use Rattle.layout.specs.Places.{Place, Small};
     ghost use Rattle.layout.specs.Pool.{cell_seen, entry_seen, length_seen, version_seen};
+
+    // Where a block lies, of any that a store may have.
+    #[tactic(auto, using(layout::specs::Lends::extents))]
+    fn place(self, block: u32) -> Range<usize>
+        requires { Small self.sizes block }
+        ensures { Place self.entry.sizes block result.start result.end }
+    {
+        let words = block_words(self.sizes.n) as usize;
+        let start = control_words(self.sizes.h, self.sizes.t) as usize + words * block as usize;
+        start..start + words
+    }
 
     // The block's part of the words. No division: B itself is not needed to tell whether there is such a block.
     #[tactic(auto, using(layout::specs::Lends::nears), unfolding(layout::specs::Parts::part, layout::specs::Parts::splice))]
@@ -31,7 +28,7 @@ impl Pool<'_> {
         if MOST_BLOCKS <= block {
             return Err(Damaged);
         }
-        let part = place(self.sizes, block);
+        let part = self.place(block);
         if self.words.len() < part.end {
             return Err(Damaged);
         }
@@ -44,7 +41,7 @@ impl Pool<'_> {
         requires { block < self.sizes.b }
         ensures { Place self.entry.sizes block result.start result.end }
     {
-        place(self.sizes, block)
+        self.place(block)
     }
 
     /// Whether there is such a block.

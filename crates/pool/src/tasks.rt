@@ -1,7 +1,6 @@
 // Task rows: where they lie, their words, what a call sees of them, and the ranges that the check tests.
-ghost use Rattle.std.specs.Prelude.{◌≡◌, ◌++◌, ◌+◌, ◌<◌, ◌≤◌, length, drop};
-ghost use Rattle.rulebook.specs.Sizes.{most_handles, most_tasks, task_row};
-ghost use Rattle.layout.specs.Places.{task_start};
+ghost use Rattle.std.specs.Prelude.{◌≡◌, ◌++◌, ◌+◌, ◌*◌, ◌<◌, ◌≤◌, length, drop};
+ghost use Rattle.rulebook.specs.Sizes.{handle_row, header_words, most_handles, most_tasks, task_row};
 ghost use Rattle.layout.specs.Rows.{task_words, task_fields, task_with, task_read, stands_in, works_in, task_seen_of};
 
 use super::codes::stage_from;
@@ -12,12 +11,12 @@ use std::ops::Range;
 // One more than a task's steps may be, as the check reads a row.
 const MOST_STEPS: u32 = 1000000000;
 
-// Where the row lies.
-fn row(sizes: Sizes, task: u32) -> Range<usize>
-    requires { (sizes.h ≤ most_handles) × (task < most_tasks) }
-    ensures { (result.start ≡ task_start sizes task) × (result.end ≡ task_start sizes task + task_row) × (result.end ≤ 1552) }
+// Where the row lies, behind so many handle rows.
+fn row(handles: u32, task: u32) -> Range<usize>
+    requires { (handles ≤ most_handles) × (task < most_tasks) }
+    ensures { (result.start ≡ header_words + handle_row * handles + task_row * task) × (result.end ≡ result.start + task_row) × (result.end ≤ 1552) }
 {
-    let start = (HEADER_WORDS + HANDLE_ROW * sizes.h + TASK_ROW * task) as usize;
+    let start = (HEADER_WORDS + HANDLE_ROW * handles + TASK_ROW * task) as usize;
     start..start + TASK_ROW as usize
 }
 
@@ -118,7 +117,7 @@ impl Pool<'_> {
         requires { task < self.sizes.t }
         ensures { result ≡ task_seen self.entry.words.now self.entry.sizes task }
     {
-        read(&self.words[row(self.sizes, task)])
+        read(&self.words[row(self.sizes.h, task)])
     }
 
     /// The task as it lies, but for its stage.
@@ -127,7 +126,7 @@ impl Pool<'_> {
         requires { task < self.sizes.t }
         ensures { result ≡ task_with stage (task_part self.entry.words.now self.entry.sizes task) }
     {
-        read_at(&self.words[row(self.sizes, task)], stage)
+        read_at(&self.words[row(self.sizes.h, task)], stage)
     }
 
     /// The code of the task's stage.
@@ -136,7 +135,7 @@ impl Pool<'_> {
         requires { task < self.sizes.t }
         ensures { result ≡ get_or (task_part self.entry.words.now self.entry.sizes task) 0 0 }
     {
-        self.words[row(self.sizes, task).start]
+        self.words[row(self.sizes.h, task).start]
     }
 
     /// The task as it lies, whatever its ranges and its code.
@@ -176,6 +175,6 @@ impl PoolMut<'_> {
         ensures words { self.new.words.now ≡ put_task self.old.words.now self.old.sizes task value }
         ensures same { IsSameLoan self.old self.new }
     {
-        write(&mut self.words[row(self.sizes, task)], value);
+        write(&mut self.words[row(self.sizes.h, task)], value);
     }
 }
