@@ -1,11 +1,10 @@
 -- A search of rows: nothing found so far, one row more, and the row that ends it. A count of rows.
 -- Rests on Plans and Looks.
-use Rattle.std.specs.Prelude.{ℕ, zero, suc, ◌+◌, ◌≡◌, ◌≢◌, ◌<◌, ◌≤◌, Option, Some, None, Result, Ok, Err, refl, ltb}
+use Rattle.std.specs.Prelude.{ℕ, zero, suc, ◌+◌, ◌≡◌, ◌≢◌, ◌<◌, Some, None, Ok, Err, refl, ltb}
 use Rattle.std.proofs.Common.{arith, add-one, sym, ◌∙◌, ap}
 use Rattle.std.proofs.lemmas.Bool.{ltb-true, ltb-false}
 use Rattle.rulebook.specs.Codes.{damaged}
 use Rattle.rulebook.specs.Tests.{by_test}
-use Rattle.rulebook.specs.declared.Damaged.{Damaged}
 use Rattle.acts.specs.Acts.{Found}
 use Rattle.acts.specs.Plans.{first_of, or_else}
 use Rattle.acts.specs.Looks.{count_of, plus}

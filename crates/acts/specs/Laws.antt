@@ -1,7 +1,7 @@
 -- Laws of counting as 32 bits do, and of replies.
 -- Rests on Plans and Told.
-use Rattle.std.specs.Prelude.{◌+◌, ◌<◌, ◌%◌, ◌^◌, ℕ, ◌≡◌}
-use Rattle.std.proofs.Common.{◌∙◌, sym, arith, eq-eqb, ne_eqb}
+use Rattle.std.specs.Prelude.{◌+◌, ◌<◌, ℕ, ◌≡◌}
+use Rattle.std.proofs.Common.{arith, ne_eqb}
 use Rattle.acts.specs.Plans.{after, last_word}
 
 -- a number that is not the last

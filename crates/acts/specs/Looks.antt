@@ -1,6 +1,6 @@
 -- What the looks and the report answer, from what they see; 2 where a bad row or word is first read.
 -- Rests on Sight and Plans' searches.
-use Rattle.std.specs.Prelude.{◌+◌, ◌<◌, suc, zero, ℕ, not, eqb, leb, if◌then◌else◌, Err, None, Ok, Result, Some}
+use Rattle.std.specs.Prelude.{◌+◌, ◌<◌, suc, zero, ℕ, leb, if◌then◌else◌, Err, None, Ok, Result, Some}
 use Rattle.rulebook.specs.declared.Reply.{Reply}
 use Rattle.rulebook.specs.State.{is_live}
 use Rattle.acts.specs.Plans.{found_if, stander_in}

@@ -1,6 +1,6 @@
 -- What each start and a release do and answer, decided from what they see; 2 where a bad row is first read. The same text serves the words
 -- of a pool and the machine's state. Rests on Sight.
-use Rattle.std.specs.Prelude.{◌+◌, suc, zero, ℕ, Bool, ◌&&◌, ◌||◌, not, eqb, leb, ltb, if◌then◌else◌, Err, None, Ok, Result, Some}
+use Rattle.std.specs.Prelude.{◌+◌, suc, zero, ℕ, Bool, ◌&&◌, ◌||◌, eqb, leb, ltb, if◌then◌else◌, Err, None, Ok, Result, Some}
 use Rattle.rulebook.specs.declared.Reply.{Reply}
 use Rattle.rulebook.specs.declared.Sizes.{Sizes}
 use Rattle.rulebook.specs.declared.Slot.{Slot}

@@ -1,6 +1,6 @@
 -- The machine's answer that a call of the code gives: document 01's number for each refusal, and each case of what is told.
 -- Rests on the rule book's replies.
-use Rattle.std.specs.Prelude.{ℕ, Result, Ok, Err, ◌≡◌}
+use Rattle.std.specs.Prelude.{Result, Ok, Err}
 use Rattle.rulebook.specs.declared.Reply.{Reply}
 use Rattle.rulebook.specs.declared.Reply.TheVariants as reply
 use Rattle.acts.specs.declared.Refusal.{Refusal}

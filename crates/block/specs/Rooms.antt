@@ -1,6 +1,6 @@
 -- What a log's length, once answered, and the room found for an entry say of the words; and what the ways out of `entry` and `append` owe.
 -- Rests on Words, Ways and Chunks.
-use Rattle.std.specs.Prelude.{ℕ, ◌+◌, ◌≤◌, ◌<◌, ◌≡◌, List, length, get_or, leb, Err, None, Ok, Option, Result, Some, true}
+use Rattle.std.specs.Prelude.{ℕ, ◌+◌, ◌≤◌, ◌<◌, ◌≡◌, List, length, get_or, leb, Err, None, Ok, Option, Result, Some}
 use Rattle.std.proofs.Common.{sym, ◌∙◌, arith}
 use borrow.Author.Tests.{leb-true, lt-ltb, le-ltb, le-leb, lt-leb, eq-eqb, ne_eqb}
 use Rattle.rulebook.specs.Sizes.{most_cells, block_words}

@@ -1,13 +1,12 @@
 -- What each way through the walk owes: rules for the proofs of `mark_row` and `laid`.
 -- Rests on Walk, Chunks and Ways.
-use Rattle.std.specs.Prelude.{ℕ, suc, ◌+◌, ◌≤◌, ◌<◌, ◌≡◌, refl, Bool, true, false, not, List, length, get_or, set, replicate, eqb, None, Option, Some}
+use Rattle.std.specs.Prelude.{ℕ, suc, ◌+◌, ◌≤◌, ◌<◌, ◌≡◌, refl, Bool, true, false, List, get_or, set, replicate, eqb, None, Option, Some}
 use Rattle.std.proofs.Common.{sym, ap, ◌∙◌, subst, inl, ⊎_elim, true≢false, add-one, arith, eqb-true, below_more}
-use Rattle.std.proofs.lemmas.Bool.{false≢true, not-true, not-false, eqb-false}
+use Rattle.std.proofs.lemmas.Bool.{false≢true, eqb-false}
 use Rattle.std.proofs.lemmas.List.{length-replicate, get_or-replicate}
-use Rattle.rulebook.specs.Sizes.{most_cells}
 use Rattle.block.specs.Layout.{length_ix, arena, most_places, space_of, bump_of, length_of, place_of, is_block, Sized, Reach}
 use Rattle.block.specs.Sound.{view_of, sum_to, Sound, Laid}
-use Rattle.block.specs.Ways.{block-sized, sized-block, head_in}
+use Rattle.block.specs.Ways.{sized-block}
 use Rattle.block.specs.Chunks.{width_holds}
 use Rattle.block.specs.Marks.{walk_start, walk_step, walk_row}
 use Rattle.block.specs.Walk.{Decides, count_of, Marks, RowIn, RowOut, RowAt, RowsAt}

@@ -31,7 +31,6 @@ use Rattle.layout.specs.Keeps.{none, only, Keeps, keeps-spans, keeps-all, keeps-
 use Rattle.layout.specs.Does.{done-near, touched_far, touched_near_lem}
 use Rattle.layout.specs.View.{view_block_at, view_slot, view_task, view_block}
 use Rattle.block.specs.declared.change.Spot.{Spot}
-use Rattle.acts.specs.declared.Refusal.TheVariants as refusal
 
 -- the touched block has the words that its touch has left
 pub done-own : {d : Sizes} {p : List ℕ} → Spans d p → (k : ℕ) → k < d.b → (z : List ℕ × Bool) → length z.0 ≡ length (block_part p d k) → block_part (put_done p d k z).0 d k ≡ z.0

@@ -1,6 +1,6 @@
 -- What writing a row or a block leaves as it was, and what it puts there.
 -- Rests on Parts, Places, Sizing and Pool.
-use Rattle.std.specs.Prelude.{ℕ, ◌+◌, ◌*◌, ◌≤◌, ◌<◌, ◌≡◌, ◌⊎◌, Bool, false, List, ◌++◌, length, get_or, drop, ltb, eqb, true}
+use Rattle.std.specs.Prelude.{ℕ, ◌+◌, ◌*◌, ◌≤◌, ◌<◌, ◌≡◌, ◌⊎◌, Bool, false, List, ◌++◌, length, get_or, drop, ltb, eqb}
 use Rattle.std.proofs.Math.Path.{refl}
 use Rattle.std.proofs.Common.{◌∙◌, inl, inr, ⊎_elim, ltb-true, ltb-false}
 use native.Mathlib.Omega.{arith}

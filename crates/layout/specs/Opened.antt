@@ -23,7 +23,6 @@ use Rattle.layout.specs.Sizing.{Openable, opens_says, described-header}
 use Rattle.layout.specs.Pool.{view_of, control_of, open_under, open_in, lie_of}
 use Rattle.layout.specs.Lends.{row_ends}
 use Rattle.layout.specs.Ranges.{slot-zero, task-zero}
-use Rattle.acts.specs.declared.Refusal.TheVariants as refusal
 
 pub list_to_replicate : {A : Type 0} (n : ℕ) (a : A) → list_to n (λ (i : ℕ). a) ≡ replicate n a
 unfolding list_to

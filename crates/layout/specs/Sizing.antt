@@ -1,6 +1,6 @@
 -- What the sizes of a store and the header say of each other and of the pool.
 -- Rests on Header and Places.
-use Rattle.std.specs.Prelude.{IfSome, ℕ, ◌+◌, ◌-◌, ◌*◌, ◌/◌, ◌≤◌, ◌<◌, min, ◌≡◌, refl, true, ◌&&◌, List, length, get_or, ltb, leb, eqb, None, Some, false, Option}
+use Rattle.std.specs.Prelude.{IfSome, ℕ, ◌+◌, ◌-◌, ◌*◌, ◌/◌, ◌≤◌, ◌<◌, min, ◌≡◌, refl, true, ◌&&◌, List, length, get_or, ltb, leb, eqb, None, Some, Option}
 use Rattle.std.proofs.Common.{sym, ap, ◌∙◌, subst, le_trans, mul-le-mul_left, le-div_iff_mul-le, div-lt_iff_lt-mul, arith, ltb-true, ltb-false, leb-true, eqb-true, le-leb, eq-eqb}
 use Rattle.std.proofs.Math.Nat.{min-eq_left, min-eq_right, min-le_left, min-le_right, le-min, mul-div-le}
 use Rattle.rulebook.specs.Sizes.{most_cells, most_handles, most_tasks, most_blocks, most_words, header_words, control_words, block_words, room, within, opens}

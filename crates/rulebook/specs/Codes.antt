@@ -1,7 +1,7 @@
 -- The numbers that stand for a stage and a status in a row, and back.
 -- Rests on Answers' codes of operation and stage.
 use Rattle.std.specs.Prelude.{ℕ, ◌+◌, ◌*◌, ◌/◌, ◌%◌, Bool, Result, Ok, Err, eqb, ltb, if◌then◌else◌}
-use Rattle.rulebook.specs.Answers.{operation, reading_code, stage_code}
+use Rattle.rulebook.specs.Answers.{operation, stage_code}
 use Rattle.rulebook.specs.declared.Reading.{Reading}
 use Rattle.rulebook.specs.declared.Reading.TheVariants as reading
 use Rattle.rulebook.specs.declared.Stage.{Stage}

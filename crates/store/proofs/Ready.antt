@@ -1,8 +1,8 @@
 -- The code of a task's stage alone says whether the task may start.
 -- Rests on acts' plans and on what a call sees of a row.
-use Rattle.std.specs.Prelude.{ℕ, Bool, true, false, List, Result, Ok, Err, ◌≡◌, refl, get_or, if◌then◌else◌}
+use Rattle.std.specs.Prelude.{ℕ, true, false, List, Result, Ok, Err, ◌≡◌, refl, get_or, if◌then◌else◌}
 use Rattle.std.proofs.Common.{◌∙◌, sym, ap}
-use Rattle.rulebook.specs.Codes.{damaged, is_code, stage_coded}
+use Rattle.rulebook.specs.Codes.{is_code, stage_coded}
 use Rattle.rulebook.specs.State.{busy}
 use Rattle.rulebook.specs.Tests.{by_test}
 use Rattle.rulebook.specs.declared.Damaged.{Damaged}

@@ -2,7 +2,7 @@
 -- Rests on the rule book's answers.
 use Prim.Native.Nat.{ℕ}
 use Rattle.std.specs.Prelude.{ltb, drop, length, replicate, if◌then◌else◌}
-use mathlib.Core.List.{List, [], ◌++◌, ◌∷◌}
+use mathlib.Core.List.{List, ◌++◌}
 use Rattle.rulebook.specs.declared.Reply.{Reply}
 use Rattle.rulebook.specs.Answers.{refusal, word}
 use Rattle.rulebook.specs.State.{list_to}

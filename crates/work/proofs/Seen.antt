@@ -5,11 +5,11 @@ use Rattle.work.proofs.Doing.{does_refused}
 use Rattle.layout.specs.Pool.{applied_in}
 use Rattle.rulebook.specs.Codes.{stage_coded}
 use Rattle.acts.specs.declared.Refusal.TheVariants as refusal
-use Rattle.std.specs.Prelude.{◌<◌, ◌≤◌, ℕ, List, ◌≡◌, ltb, get_or, if◌then◌else◌, Err, None, Ok, Result, Some}
+use Rattle.std.specs.Prelude.{◌<◌, ℕ, List, ◌≡◌, get_or, if◌then◌else◌, Err, None, Ok, Result, Some}
 use Rattle.std.proofs.Common.{arith, ◌∙◌, sym}
 use Rattle.std.proofs.Math.Path.{ap, refl}
 use Rattle.std.proofs.Math.Dec.{eqb}
-use borrow.Author.Tests.{le-leb, lt-leb}
+use borrow.Author.Tests.{lt-leb}
 use Rattle.acts.specs.Acts.{Act, Found}
 use Rattle.acts.specs.declared.Reader.{Reader}
 use Rattle.acts.specs.Touch.{Touch}
@@ -20,7 +20,7 @@ use Rattle.rulebook.specs.declared.Task.{Task}
 use Rattle.acts.specs.Plans.{after, free_in, goes, ticked}
 use Rattle.acts.specs.StepPlans.{appends_entry, copy_goes, exchanges_on, fills_copy, fills_new, finishes, get_goes, gives_up, goes_on, page_goes, page_settles, plan_at, plan_row, plan_step, puts, read_in, reads_old, takes, writes_new}
 use Rattle.acts.specs.Sight.{Sight}
-use Rattle.layout.specs.Places.{Spans, task_part}
+use Rattle.layout.specs.Places.{task_part}
 use Rattle.layout.specs.Pool.{sight, task_seen}
 use Rattle.rulebook.specs.Codes.{is_code, stage_from}
 use Rattle.layout.specs.Rows.{task_read, task_seen_of}

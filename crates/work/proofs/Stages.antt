@@ -1,7 +1,7 @@
 -- What the stages share: a reading of whoever reads, the handle that an ending makes, and a touch that is not done.
 -- Rests on Doing.
-use Rattle.std.specs.Prelude.{ℕ, Some, eqb, ltb, ◌⊎◌, ◌+◌, Bool, true, false, List, Result, Ok, Err, ◌≡◌, refl, is_ok, leb, if◌then◌else◌}
-use Rattle.std.proofs.Common.{ap, sym, ◌∙◌, arith, subst, inl, inr, ⊎_elim, eq-eqb, ne_eqb, eqb-true}
+use Rattle.std.specs.Prelude.{ℕ, Some, eqb, ltb, ◌⊎◌, ◌+◌, Bool, true, false, List, Result, Ok, Err, ◌≡◌, refl, is_ok, leb}
+use Rattle.std.proofs.Common.{ap, sym, ◌∙◌, arith, subst, inl, inr, eq-eqb, ne_eqb, eqb-true}
 use Rattle.std.proofs.lemmas.Bool.{eqb-false}
 use Rattle.rulebook.specs.Codes.{damaged}
 use Rattle.rulebook.specs.Sizes.{last_serial, public_number}
@@ -29,7 +29,7 @@ use Rattle.block.specs.Words.{exchange_in, version_in}
 use Rattle.acts.specs.declared.Reader.{Reader}
 use Rattle.acts.specs.declared.Reader.TheVariants as reader
 use Rattle.acts.specs.declared.Refusal.TheVariants as refusal
-use Rattle.layout.specs.Pool.{applied_in, exchange_seen, put_slot, put_task, raised, sight, slot_seen, touched_in, version_seen}
+use Rattle.layout.specs.Pool.{applied_in, exchange_seen, put_task, raised, sight, slot_seen, touched_in, version_seen}
 use Rattle.layout.specs.Does.{untouched}
 use Rattle.layout.specs.Places.{block_part}
 use Rattle.work.specs.Stepped.{finished, live_slot, next_serial, step_at, task_up}

@@ -1,7 +1,7 @@
 -- Whatever a pool holds, what a plan names is there: the slot and the task that it changes.
 -- Rests on the ranges of the rows that were read.
-use Rattle.std.specs.Prelude.{◌+◌, ◌<◌, suc, zero, ℕ, Bool, ◌&&◌, ◌||◌, false, not, true, List, eqb, leb, get_or, if◌then◌else◌, Err, None, Ok, Result, Some}
-use Rattle.std.proofs.Common.{true≢false, arith}
+use Rattle.std.specs.Prelude.{◌+◌, ◌<◌, suc, zero, ℕ, Bool, ◌&&◌, ◌||◌, false, true, List, eqb, leb, get_or, if◌then◌else◌, Err, None, Ok, Result, Some}
+use Rattle.std.proofs.Common.{arith}
 use Rattle.std.proofs.Math.Path.{◌≡◌, refl}
 use Rattle.std.proofs.Math.Dec.{ltb}
 use borrow.Author.Tests.{leb-false, lt-ltb, ltb-true}

@@ -1,4 +1,4 @@
-use Rattle.std.proofs.Common.{rules, refl}
+use Rattle.std.proofs.Common.{refl}
 use Rattle.block.specs.Rows.{rows_start}
 use Rattle.block.proofs.walk.laid.Goals as goal
 

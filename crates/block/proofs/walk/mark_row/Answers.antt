@@ -1,4 +1,3 @@
-use Rattle.std.proofs.Common.{rules}
 use Rattle.block.specs.Rows.{row-reach}
 use Rattle.block.proofs.walk.mark_row.Goals as goal
 

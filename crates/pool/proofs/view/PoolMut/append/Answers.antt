@@ -1,4 +1,4 @@
-use Rattle.std.proofs.Common.{◌<◌, refl}
+use Rattle.std.proofs.Common.{◌<◌}
 use Rattle.layout.specs.Lends.{append-put}
 use Rattle.layout.specs.Parts.{part, splice}
 use Rattle.layout.specs.Places.{Place}
