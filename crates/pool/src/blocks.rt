@@ -1,6 +1,7 @@
 // Blocks: a block's words are lent on as a part of the pool, and what reads or writes them sees no others.
+use super::headers::first_end;
 use super::view::{Pool, PoolMut};
-use rulebook::{Damaged, Entry, MOST_BLOCKS, block_words, control_words};
+use rulebook::{Damaged, Entry, MOST_BLOCKS, Sizes, block_words};
 use std::ops::Range;
 
 impl Pool<'_> {
@@ -14,9 +15,10 @@ impl Pool<'_> {
         requires { Small self.sizes block }
         ensures { Place self.entry.sizes block result.start result.end }
     {
-        let words = block_words(self.sizes.n) as usize;
-        let start = control_words(self.sizes.h, self.sizes.t) as usize + words * block as usize;
-        start..start + words
+        let Sizes { n, h, t, .. } = self.sizes;
+        let words = block_words(n) as usize;
+        let end = first_end(n, h, t) + words * block as usize;
+        end - words..end
     }
 
     // The block's part of the words. No division: B itself is not needed to tell whether there is such a block.

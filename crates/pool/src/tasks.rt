@@ -22,6 +22,7 @@ fn row(handles: u32, task: u32) -> Range<usize>
 
 // Writes the words that a task has; the others of the row stay as they are.
 #[tactic(auto, using(layout::specs::Ways::rowing))]
+#[inline(always)]
 fn write(row: &mut [u32], task: Task)
     requires { length row.old ≡ task_row }
     ensures { row.new ≡ task_words task ++ drop task_fields row.old }
@@ -46,6 +47,7 @@ fn write(row: &mut [u32], task: Task)
 }
 
 // The task of a row, but for its stage.
+#[inline(always)]
 fn read_at(row: &[u32], stage: Stage) -> Task
     requires { length row.now ≡ task_row }
     ensures { result ≡ task_with stage row.now }
@@ -75,6 +77,7 @@ fn read_at(row: &[u32], stage: Stage) -> Task
 
 // The task of a row that has a stage's code.
 #[tactic(auto, unfolding(layout::specs::Rows::task_seen_of, layout::specs::Rows::task_read, rulebook::specs::Codes::stage_coded))]
+#[inline(always)]
 fn read(row: &[u32]) -> Result<Task, Damaged>
     requires { length row.now ≡ task_row }
     ensures { result ≡ task_seen_of row.now }

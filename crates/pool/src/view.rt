@@ -49,9 +49,10 @@ impl<'a> PoolMut<'a> {
         ensures words { result.words.now ≡ self.now.words.now }
         ensures sizes { result.sizes ≡ self.now.sizes }
     {
+        let Sizes { n, h, t, b } = self.sizes;
         Pool {
             words: self.words,
-            sizes: self.sizes,
+            sizes: Sizes { n, h, t, b },
         }
     }
 }
