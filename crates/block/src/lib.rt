@@ -14,7 +14,7 @@ ghost use Rattle.block.specs.Words.{version_in, cell_in, length_in, entry_in};
 
 pub use change::{append, exchange, fill, take, write};
 pub use raw::{raw_bump, raw_length, raw_stamp, raw_version};
-use rulebook::{Damaged, Entry};
+use rulebook::{Damaged, Entry, MOST_CELLS, block_words};
 pub use walk::laid;
 
 // The block's words: V, the bump, and words not used up to HEAD; a cell, a length and WIDTH words of the directory for each cell; the arena.
@@ -26,9 +26,7 @@ const HEAD: u32 = 16;
 
 const WIDTH: u32 = 13;
 
-// The most cells that a block has, and the most places of its arena.
-const CELLS: u32 = 4096;
-
+// The most places of an arena.
 const PLACES: usize = 8192;
 
 // The slice is a block of so many cells.
@@ -37,7 +35,7 @@ fn sized(block: &[u32], cells: u32) -> Result<(), Damaged>
     ensures test { is_ok result ≡ is_block cells block.now }
     ensures sized { OnOk result (Sized cells block.now) }
 {
-    if cells < 1 || CELLS < cells || block.len() != (20 * cells + 16) as usize {
+    if cells < 1 || MOST_CELLS < cells || block.len() != block_words(cells) as usize {
         return Err(Damaged);
     }
     Ok(())

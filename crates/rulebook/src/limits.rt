@@ -12,6 +12,9 @@ pub const MOST_BLOCKS: u32 = 256;
 
 pub const LAST_SERIAL: u32 = 16777215;
 
+/// A handle's public number is its slot and so many times its serial.
+pub const SLOTS: u32 = 256;
+
 /// The words of the header, of a handle row and of a task row.
 pub const HEADER_WORDS: u32 = 16;
 

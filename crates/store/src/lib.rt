@@ -74,9 +74,6 @@ pub fn step(words: &mut [u32], task: u32) -> Result<Told, Refusal>
     ensures { (words.new, reply_of result) ≡ step_in words.old task }
 {
     let sizes = header_of(words).ok_or(Refusal::NoPool)?;
-    if sizes.t <= task {
-        return Err(Refusal::NoTask);
-    }
     work::step(&mut PoolMut::new(words, sizes), task)
 }
 

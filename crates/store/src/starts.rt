@@ -7,10 +7,7 @@ ghost use Rattle.pool.specs.Loans.{IsSameLoan};
 
 use acts::{Refusal, Told};
 use pool::{Pool, PoolMut};
-use rulebook::{Hand, Reading, Slot, Stage, Task};
-
-// How many handles a handle's public number tells apart: the slot is the rest.
-const SLOTS: u32 = 256;
+use rulebook::{Hand, Reading, SLOTS, Slot, Stage, Task};
 
 // ---- what is asked first
 

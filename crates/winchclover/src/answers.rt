@@ -89,12 +89,11 @@ pub fn tell(answer: &mut [u32], told: Result<Told, Refusal>) -> u32
             list_told(answer, told);
             0
         }
-        Err(Refusal::Full { steps }) => {
-            list(answer, [2, steps, 0, 0, 0, 0, 0, 0]);
-            10
-        }
         Err(refusal) => {
-            answer[..16].fill(0);
+            match refusal {
+                Refusal::Full { steps } => list(answer, [2, steps, 0, 0, 0, 0, 0, 0]),
+                _ => answer[..16].fill(0),
+            }
             u32::from(refusal)
         }
     }

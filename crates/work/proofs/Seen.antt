@@ -5,11 +5,11 @@ use Rattle.work.proofs.Doing.{does_refused}
 use Rattle.layout.specs.Pool.{applied_in}
 use Rattle.rulebook.specs.Codes.{stage_coded}
 use Rattle.acts.specs.declared.Refusal.TheVariants as refusal
-use Rattle.std.specs.Prelude.{◌<◌, ℕ, List, ◌≡◌, get_or, if◌then◌else◌, Err, None, Ok, Result, Some}
+use Rattle.std.specs.Prelude.{◌<◌, ◌≤◌, ℕ, List, ◌≡◌, get_or, if◌then◌else◌, Err, None, Ok, Result, Some}
 use Rattle.std.proofs.Common.{arith, ◌∙◌, sym}
 use Rattle.std.proofs.Math.Path.{ap, refl}
 use Rattle.std.proofs.Math.Dec.{eqb}
-use borrow.Author.Tests.{lt-leb}
+use borrow.Author.Tests.{le-leb, lt-leb}
 use Rattle.acts.specs.Acts.{Act, Found}
 use Rattle.acts.specs.declared.Reader.{Reader}
 use Rattle.acts.specs.Touch.{Touch}
@@ -140,4 +140,9 @@ module _ (p : List ℕ) (d : Sizes) (t : ℕ) (l : t < d.t) where
       rw o (ap (λ (x : Stage). applied_in p d (plan_at x (sight p d) t (task_up p d t))) (sym y) ∙ ap (applied_in p d) (sym (up_as (stage_from (get_or (task_part p d t) 0 0))) ∙ (unfold task_read in refl))))
       (λ o. let q : ◌≡◌ {A = Result Stage Damaged} (Err damaged) (Ok g) = (rw o at (sym e ∙ f)) in let z : ◌≡◌ {A = ℕ} 0 1 = cc in absurd (omega arith)))
 
-pub ruleset steps = (step_bad, step_as)
+-- there is no such task: 4
+pub step_away : (p : List ℕ) (d : Sizes) (t : ℕ) → d.t ≤ t → (p, reply.Refused 4) ≡ applied_in p d (plan_step (sight p d) t)
+unfolding plan_step sight
+step_away p d t l = rw (le-leb d.t t l) (does_refused p d refusal.NoTask)
+
+pub ruleset steps = (step_away, step_bad, step_as)

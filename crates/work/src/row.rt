@@ -10,7 +10,7 @@ ghost use Rattle.work.specs.Stepped.{finished, gone_on, next_serial, task_up};
 
 use acts::{Told, ticked};
 use pool::PoolMut;
-use rulebook::{Damaged, LAST_SERIAL, Slot, Stage, Status, Task};
+use rulebook::{Damaged, LAST_SERIAL, SLOTS, Slot, Stage, Status, Task};
 
 /// The task's row with this step counted. Its stage is known where it is called, and not read again.
 #[tactic(auto, unfolding(crate::specs::Stepped::task_up))]
@@ -77,6 +77,6 @@ pub fn finish(
     rest(pool, task);
     Told::Made {
         steps: row.steps,
-        handle: row.fresh + 256 * serial,
+        handle: row.fresh + SLOTS * serial,
     }
 }

@@ -45,10 +45,12 @@ fn step_at(pool: &mut PoolMut<'_>, task: u32, stage: Stage) -> Result<Told, Refu
 /// The task takes a step.
 #[tactic(auto, using(crate::proofs::Seen::steps))]
 pub fn step(pool: &mut PoolMut<'_>, task: u32) -> Result<Told, Refusal>
-    requires { task < pool.old.sizes.t }
     ensures words { (pool.new.words.now, reply_of result) ≡ applied_in pool.old.words.now pool.old.sizes (plan_step (sight pool.old.words.now pool.old.sizes) task) }
     ensures same { IsSameLoan pool.old pool.new }
 {
+    if pool.sizes.t <= task {
+        return Err(Refusal::NoTask);
+    }
     let stage = Stage::try_from(pool.as_pool().code(task))?;
     step_at(pool, task, stage)
 }
