@@ -1,4 +1,5 @@
 // Rule 7: its parts in their order.
+// What a part asks for (the rules, Marked, Paced, Known, Facts) is a clause: the tests before have shown it of these words, and no value carries it.
 ghost use Rattle.std.specs.Prelude.{◌≡◌};
 ghost use Rattle.survey.specs.Rules.{Rule2, Rule3, Rule6};
 ghost use Rattle.survey.specs.Broken.{rule7};

@@ -10,6 +10,7 @@ use super::{
 use rulebook::{Damaged, Entry};
 
 // What an append writes: the base of the entry's chunk, the bump, the entry's place in the arena, and the log's length.
+// Clone and Copy alone: nothing compares or prints one, and each derived method is one more to prove.
 #[derive(Clone, Copy)]
 pub struct Spot {
     pub chunk: u32,

@@ -1,5 +1,6 @@
 // One block's words, a lent part of the pool: V, the cells, and a log for each cell in chunks that double.
 // No public function asks anything of what the words say: a number outside the block or its layout is Damaged, and changes nothing. Those of raw ask for a block and a cell of it.
+// A slice and its number of cells stand in no struct: an answer is promised for any slice and any number, so it would have no invariant.
 #![tactic(auto)]
 
 mod change;

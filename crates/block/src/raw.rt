@@ -6,6 +6,7 @@ ghost use Rattle.block.specs.Raw.{stamp_in};
 use super::{BUMP, VERSION, entry_at, length_at, place, places};
 
 // A version that rule 3 allows no entry: V is at most N + 1.
+// A number and no Option: the check compares it as a version, and would have to take an Option apart at each call.
 const OUTSIDE: u32 = 4294967295;
 
 /// V.

@@ -1,7 +1,7 @@
 // Numbers that look drawn, the same on each run.
 ghost use Rattle.std.specs.Prelude.{◌<◌};
 
-/// A drawn number.
+/// A drawn number. Its arithmetic is by hand, so that the orders drawn, and what the program prints of them, stay the same.
 #[derive(Clone, Copy, Debug)]
 pub struct Drawn(pub u32);
 

@@ -1,4 +1,5 @@
 // Random orders of many tasks, the store beside a plain model that copies whole tables.
+// The pools are arrays on the stack: their sizes are the program's inputs.
 #![tactic(auto)]
 
 mod draw;

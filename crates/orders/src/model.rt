@@ -150,7 +150,7 @@ impl Model {
         }
     }
 
-    // The slots that are live or reserved.
+    // The slots that are live or reserved: at most MOST of each, so the sum needs no test, and saturating_add asks for no proof of that.
     fn slots_used(&self) -> usize {
         let live = self.versions.iter().flatten().count();
         let orders = self.tasks.iter().flatten();

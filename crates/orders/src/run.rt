@@ -10,7 +10,7 @@ use winchclover::{
     winch_release, winch_start_get, winch_start_new, winch_start_page, winch_start_set, winch_step,
 };
 
-/// A store, the model beside it, and what was seen of both.
+/// A store, the model beside it, and what was seen of both. Drop alone: it holds a `&mut`, which is not copied.
 #[derive(Drop)]
 pub struct Run<'a> {
     pool: &'a mut [u32],

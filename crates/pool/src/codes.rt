@@ -1,4 +1,5 @@
 // The stage that a word gives, whatever it is: what the check reads of a row before it tests the codes.
+// Numbers, and no TryFrom: task_read (layout/specs/Rows.antt) says which stage the check reads of a word that is no code.
 ghost use Rattle.std.specs.Prelude.{◌≡◌};
 ghost use Rattle.rulebook.specs.Codes.{reading_from, making_from, setting_from, stage_from};
 

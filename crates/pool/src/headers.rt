@@ -1,4 +1,5 @@
 // The pool's first words, and the sizes that they give.
+// Words have the numbers of docs/LAYOUT.md. That they are there is a clause of fits: header_of tests the length before all else.
 ghost use Rattle.std.specs.Prelude.{◌≡◌, ◌≤◌, ◌+◌, IfSome, get_or, length};
 ghost use Rattle.rulebook.specs.Sizes.{block_words, control_words, most_cells, most_handles, most_tasks, within};
 ghost use Rattle.layout.specs.Header.{limited, sizes_in, header_of};

@@ -21,7 +21,7 @@ fn clear(part: &mut [u32])
     }
 }
 
-// Words 0 to 5.
+// Words 0 to 5, by the numbers of docs/LAYOUT.md. Their length is a clause: they are a part of the lent words, cut in open.
 #[tactic(auto, unfolding(layout::specs::Header::headed))]
 fn head(part: &mut [u32], cells: u32, handles: u32, tasks: u32, words: u32)
     requires { header_words ≤ length part.old }

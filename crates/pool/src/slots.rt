@@ -1,4 +1,5 @@
 // Handle rows: where they lie, their words, what a call sees of them, and the ranges that the check tests.
+// Words have the numbers of docs/LAYOUT.md. A row's length is a clause: the row is a part of the lent words, cut in the line that calls.
 ghost use Rattle.std.specs.Prelude.{◌≡◌, ◌+◌, ◌<◌, ◌≤◌, length};
 ghost use Rattle.rulebook.specs.Sizes.{most_handles, handle_row};
 ghost use Rattle.layout.specs.Places.{slot_start};

@@ -1,4 +1,5 @@
 // Task rows: where they lie, their words, what a call sees of them, and the ranges that the check tests.
+// Words have the numbers of docs/LAYOUT.md. A row's length is a clause: the row is a part of the lent words, cut in the line that calls.
 ghost use Rattle.std.specs.Prelude.{◌≡◌, ◌++◌, ◌+◌, ◌*◌, ◌<◌, ◌≤◌, length, drop};
 ghost use Rattle.rulebook.specs.Sizes.{handle_row, header_words, most_handles, most_tasks, task_row};
 ghost use Rattle.layout.specs.Rows.{task_words, task_fields, task_with, task_read, stands_in, works_in, task_seen_of};

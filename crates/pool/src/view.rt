@@ -6,7 +6,7 @@ ghost use Rattle.layout.specs.Header.{header_of};
 use super::headers::header_of;
 use rulebook::Sizes;
 
-/// A pool that is only read.
+/// A pool that is only read. Clone and Copy alone: nothing compares or prints one, and each derived method is one more to prove.
 #[derive(Clone, Copy)]
 pub struct Pool<'a> {
     pub words: &'a [u32],
@@ -25,7 +25,7 @@ impl<'a> Pool<'a> {
     }
 }
 
-/// A pool that may be written.
+/// A pool that may be written. Drop alone: it holds a `&mut`, which is not copied.
 #[derive(Drop)]
 pub struct PoolMut<'a> {
     pub words: &'a mut [u32],

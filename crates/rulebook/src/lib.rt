@@ -13,7 +13,7 @@ pub use limits::{
     TASK_ROW, block_words, control_words,
 };
 
-// N, H, T, B: how many cells, handles, tasks and blocks a store has.
+// N, H, T, B: how many cells, handles, tasks and blocks a store has. The fields keep the rule book's letters.
 #[derive(Clone, Copy, Debug, PartialEq, Eq)]
 pub struct Sizes {
     pub n: u32,
@@ -77,6 +77,7 @@ pub enum Stage {
 }
 
 // The get in hand: its cell, the guess, the bounds of its search, whether there is a candidate, its value and its version.
+// A flag and no Option of the two: words 14 and 15 of a task's row are written back as they were read, behind a 0 in word 13 too.
 #[derive(Clone, Copy, Debug, PartialEq, Eq)]
 pub struct Hand {
     pub cell: u32,
@@ -113,6 +114,7 @@ pub struct Task {
 }
 
 // What a call answers. Specs/Answers.antt gives document 01's refusal number and answer words for every case.
+// An enum and no Result, with a refusal as its number: one definition gives the number of every case, and the promises speak of it.
 #[derive(Clone, Copy, Debug, PartialEq, Eq)]
 pub enum Reply {
     // a refusal but 10: its number

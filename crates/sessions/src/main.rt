@@ -1,4 +1,5 @@
 // Document 01's sessions and edges through the C functions, printed.
+// The pools are arrays on the stack: their sizes are the program's inputs.
 #![tactic(auto)]
 
 mod looks;

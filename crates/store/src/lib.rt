@@ -1,4 +1,5 @@
 // The store's calls on a lent pool. Each reads the header, and does what the row of its task and one block ask for, in place.
+// The line for that stands in each: were one function to read it and to lend the pool, the words' lender would learn nothing where it refuses.
 #![tactic(auto)]
 
 mod looks;

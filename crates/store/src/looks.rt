@@ -1,4 +1,5 @@
 // The looks and the report: they read, and write nothing.
+// The line that reads the header stands in each: it is one line with `?`, and a closure for what follows is as long as the function.
 ghost use Rattle.std.specs.Prelude.{◌≡◌};
 ghost use Rattle.acts.specs.Looks.{visible_in};
 ghost use Rattle.acts.specs.Told.{shown_of};
@@ -47,6 +48,7 @@ pub fn look_cell(words: &[u32], block: u32, cell: u32) -> Result<Shown, Refusal>
 pub fn look_log(words: &[u32], block: u32, cell: u32) -> Result<Shown, Refusal>
     ensures { shown_of result ≡ look_log_in words.now block cell }
 {
+    // It differs from look_cell in one call: a closure for that call is as long as the function.
     let pool = Pool::of(words).ok_or(Refusal::NoPool)?;
     visible(pool, block)?;
     if pool.sizes.n <= cell {

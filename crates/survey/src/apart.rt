@@ -42,6 +42,7 @@ fn apart_on(pool: Pool<'_>, first: &[u32], next: &[u32], block: u32, seen: &mut 
     ensures { Told pool.entry.sizes pool.entry.words.now block seen.new result }
 {
     let mut slot = first[block as usize];
+    // By hand: down a list there is no range.
     while slot != NONE {
         let number = pool.raw_slot(slot).number as usize;
         if seen[number] == block {

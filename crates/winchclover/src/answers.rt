@@ -1,4 +1,5 @@
 // What C reads of an answer: the refusal number, and the first 16 words of the answer slice.
+// That there are 16 is a clause: the slice is C's, and the lines before the call have tested it.
 ghost use Rattle.std.specs.Prelude.{◌≡◌, ◌≤◌, ◌++◌, length, drop, replicate};
 ghost use Rattle.acts.specs.Told.{reply_of, shown_as, shown_of, told_as};
 ghost use Rattle.winchclover.specs.Answered.{listed, said_in, words_in};
@@ -7,6 +8,7 @@ use acts::{Refusal, Shown, Told};
 use rulebook::Task;
 
 // Eight numbers, and 0 in the rest of 16.
+// The words that document 01 lists, each stored by its number: copied in one call they cost 8 to 17 instructions more in each answer.
 fn list(answer: &mut [u32], numbers: [u32; 8])
     requires { 16 ≤ length answer.old }
     ensures { answer.new ≡ listed numbers ++ drop 16 answer.old }

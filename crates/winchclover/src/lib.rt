@@ -13,7 +13,7 @@ ghost use Rattle.winchclover.specs.Answered.{answered_in, shown_in};
 use acts::Shown;
 use answers::{show, tell};
 
-// The least number of words of an answer slice.
+// The least number of words of an answer slice. Each call returns 15 itself below it, before all else: C takes a number, and each contract says so.
 const ANSWER_WORDS: usize = 16;
 
 #[tactic(auto, unfolding(crate::specs::Answered::answered_in))]

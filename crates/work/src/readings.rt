@@ -1,4 +1,5 @@
 // The steps of a get: of a get itself, of a copy and of a page. Each reads one word of the block, and goes on or settles.
+// The reader is a value: a closure or a type parameter makes three copies of a step's code, and a step is one piece of machine code.
 ghost use Rattle.std.specs.Prelude.{Ok, ◌<◌, ◌≡◌};
 ghost use Rattle.rulebook.specs.declared.Progress.TheVariants as progress;
 ghost use Rattle.acts.specs.StepPlans.{goes_on, page_settles, stage_for};
