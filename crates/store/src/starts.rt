@@ -1,4 +1,5 @@
 // The starts and the release: an idle task, a live handle, and then the rows are written.
+// The pool and the task stand side by side, as in work/src/row.rt, which says why.
 ghost use Rattle.std.specs.Prelude.{◌≡◌, ◌%◌, ◌<◌, OnOk};
 ghost use Rattle.acts.specs.Plans.{begun_on, live_in, maker, placed, plan_get, plan_new, plan_page, plan_release, plan_set, ready_in, reserves_for};
 ghost use Rattle.acts.specs.Told.{reply_of, told_as};
