@@ -9,8 +9,8 @@ mod stages;
 mod tasks;
 
 pub use limits::{
-    HANDLE_ROW, HEADER_WORDS, LAST_SERIAL, MOST_BLOCKS, MOST_CELLS, MOST_HANDLES, MOST_TASKS, SLOTS,
-    TASK_ROW, block_words, control_words,
+    HANDLE_ROW, HEADER_WORDS, LAST_SERIAL, MOST_BLOCKS, MOST_CELLS, MOST_HANDLES, MOST_TASKS,
+    SLOTS, TASK_ROW, block_words, control_words,
 };
 
 // N, H, T, B: how many cells, handles, tasks and blocks a store has. The fields keep the rule book's letters.
