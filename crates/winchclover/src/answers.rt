@@ -8,7 +8,7 @@ use acts::{Refusal, Shown, Told};
 use rulebook::Task;
 
 // Eight numbers, and 0 in the rest of 16.
-// The words that document 01 lists, each stored by its number: copied in one call they cost 8 to 17 instructions more in each answer.
+// The words that document 01 lists, each stored by its number: of a copy of all eight in one call the clause was not proved.
 fn list(answer: &mut [u32], numbers: [u32; 8])
     requires { 16 ≤ length answer.old }
     ensures { answer.new ≡ listed numbers ++ drop 16 answer.old }
