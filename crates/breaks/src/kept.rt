@@ -9,15 +9,17 @@ pub const POOL_WORDS: usize = 208;
 
 pub type Words = [u32; POOL_WORDS];
 
-// The handle in which task 0 ends within so many steps; 0, which names none, where it goes on.
+// The handle in which task 0 ends with the last of so many steps; 0, which names none, where it does not. After an earlier end a step is refused.
 fn made(words: &mut Words, steps: u32) -> Result<u32, Refused> {
+    let mut last = Said::Nothing;
     for _ in 0..steps {
         let answer = asked(|answer| winch_step(words, 0, answer))?;
-        if let Said::Made { handle, .. } = Said::from(answer) {
-            return Ok(handle);
-        }
+        last = Said::from(answer);
     }
-    Ok(0)
+    match last {
+        Said::Made { handle, .. } => Ok(handle),
+        _ => Ok(0),
+    }
 }
 
 // A new takes N + 1 steps.

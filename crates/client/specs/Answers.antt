@@ -1,12 +1,12 @@
 -- What a program makes of the number and the words that a call leaves.
-use Rattle.std.specs.Prelude.{ℕ, List, [], ◌∷◌, slice_index, ◌==◌, if◌then◌else◌, Result, Ok, Err}
+use Rattle.std.specs.Prelude.{ℕ, List, replicate, slice_index, ◌==◌, if◌then◌else◌, Result, Ok, Err}
 use Rattle.client.specs.declared.Refused.{Refused}
 use Rattle.client.specs.declared.Said.{Said}
 use Rattle.client.specs.declared.Said.TheVariants.{Nothing, Handed, Made, Read}
 
--- an answer's words before the call
+-- an answer's words before the call: no zeros, so that one which a call leaves is not read as its answer
 abbrev pub no_words : List ℕ
-no_words = 0 ∷ 0 ∷ 0 ∷ 0 ∷ 0 ∷ 0 ∷ 0 ∷ 0 ∷ 0 ∷ 0 ∷ 0 ∷ 0 ∷ 0 ∷ 0 ∷ 0 ∷ 0 ∷ []
+no_words = replicate 16 4294967295
 
 -- the number 0 accepts; the second word of a refused step counts the steps of its task
 abbrev pub answer_of : ℕ → List ℕ → Result (List ℕ) Refused

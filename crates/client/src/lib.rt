@@ -27,12 +27,15 @@ impl fmt::Display for Refused {
     }
 }
 
+// What stands in an answer's words before the call: a word that the call leaves shows in what a program prints.
+const UNWRITTEN: u32 = 4294967295;
+
 /// Makes a call with room for its answer.
 pub fn asked<F: FnOnce(&mut Answer) -> u32>(call: F) -> Result<Answer, Refused>
     requires { F.IsAlwaysCallable call }
     ensures { (number : ℕ) × (words : _) × FnOnceReturnsAtMut F.FnOnce call no_words number words × (result ≡ answer_of number words) }
 {
-    let mut answer = [0; 16];
+    let mut answer = [UNWRITTEN; 16];
     match call(&mut answer) {
         0 => Ok(answer),
         number => Err(Refused {

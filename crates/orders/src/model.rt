@@ -2,6 +2,8 @@
 ghost use Rattle.std.specs.Prelude.{◌<◌, ◌≤◌};
 ghost use Rattle.orders.specs.declared.model.TheConstants.{MOST};
 
+use client::Said;
+
 /// The most tasks, slots and cells of the model.
 pub const MOST: usize = 16;
 
@@ -46,6 +48,9 @@ pub enum Order {
 }
 
 impl Order {
+    ghost use Rattle.std.specs.Prelude.{◌≡◌};
+    ghost use Rattle.orders.specs.Says.{goes_on, may_say, reserves};
+
     /// The handle that it names.
     pub fn handle(self) -> Option<u32> {
         match self {
@@ -57,8 +62,29 @@ impl Order {
     }
 
     /// Whether it reserves a slot for a new handle.
-    pub fn reserves(self) -> bool {
+    pub fn reserves(self) -> bool
+        ensures { result ≡ reserves self }
+    {
         matches!(self, Order::New { .. } | Order::Set { .. })
+    }
+
+    // A page goes on after a cell that is not its last.
+    fn goes_on(self) -> bool
+        ensures { result ≡ goes_on self }
+    {
+        matches!(self, Order::Page { count, .. } if count > 1)
+    }
+
+    /// Whether a step may say this of it: where the task has ended, and where it goes on.
+    pub fn may_say(self, said: Said) -> bool
+        ensures { result ≡ may_say self said }
+    {
+        match said {
+            Said::Nothing => true,
+            Said::Handed { .. } => self.goes_on(),
+            Said::Read { .. } => !self.reserves() && !self.goes_on(),
+            Said::Made { .. } => self.reserves(),
+        }
     }
 
     // Whether the cells that it names are among so many.

@@ -72,6 +72,7 @@ impl<'a> Run<'a> {
 
     // What an accepted step says; what is left to do of its task's order.
     fn hear(&mut self, order: Order, said: Said) -> Option<Order> {
+        self.tally.expect(order.may_say(said));
         match said {
             Said::Nothing => Some(order),
             Said::Handed { cell, value } => {
