@@ -1,14 +1,16 @@
 // One step each: a set, in place or by a copy.
-ghost use Rattle.std.specs.Prelude.{◌<◌, ◌≡◌};
+ghost use Rattle.std.specs.Prelude.{◌<◌, ◌≡◌, is_ok};
 ghost use Rattle.acts.specs.StepPlans.{after_exchange};
 ghost use Rattle.acts.specs.Told.{reply_of};
+ghost use Rattle.acts.specs.Touch as touch;
+ghost use Rattle.layout.specs.Pool.{touched_in};
 ghost use Rattle.work.specs.Stepped.{step_at};
 ghost use Rattle.pool.specs.Loans.{IsSameLoan};
 
 use super::row::{counted, finish, go_on, next_serial};
 use acts::{Refusal, Told, after};
 use pool::PoolMut;
-use rulebook::{Entry, Hand, Reading, Stage, Task};
+use rulebook::{Damaged, Entry, Hand, Reading, Stage, Task};
 
 // A first set with L < N goes on in place; every other set copies.
 fn first_set(row: Task, cells: u32) -> Task
@@ -51,6 +53,18 @@ pub fn step_read(pool: &mut PoolMut<'_>, task: u32) -> Result<Told, Refusal>
     ))
 }
 
+// The entry that keeps the value read: (L, value read) goes to the cell's log.
+fn append_old(pool: &mut PoolMut<'_>, row: Task) -> Result<(), Damaged>
+    ensures words { (pool.new.words.now, is_ok result) ≡ touched_in pool.old.words.now pool.old.sizes (touch.Append row.block row.cell (record { version = row.number; old = row.hand.guess })) }
+    ensures same { IsSameLoan pool.old pool.new }
+{
+    let entry = Entry {
+        version: row.number,
+        old: row.hand.guess,
+    };
+    pool.append(row.block, row.cell, entry)
+}
+
 /// Append (L, value read) to the cell's log.
 #[tactic(auto, unfolding(crate::specs::Stepped::step_at, acts::specs::StepPlans::plan_at, layout::specs::Pool::sight, acts::specs::StepPlans::appends_entry), using(crate::proofs::Doing::doing))]
 pub fn step_append(pool: &mut PoolMut<'_>, task: u32) -> Result<Told, Refusal>
@@ -59,11 +73,7 @@ pub fn step_append(pool: &mut PoolMut<'_>, task: u32) -> Result<Told, Refusal>
     ensures same { IsSameLoan pool.old pool.new }
 {
     let row = counted(pool, task);
-    let entry = Entry {
-        version: row.number,
-        old: row.hand.guess,
-    };
-    pool.append(row.block, row.cell, entry)?;
+    append_old(pool, row)?;
     Ok(go_on(pool, task, row.moved(Stage::Write, row.hand)))
 }
 

@@ -4,6 +4,6 @@ use Rattle.acts.specs.StepPlans.{plan_at, appends_entry}
 use Rattle.work.proofs.Stages.{goes_err}
 use Rattle.work.proofs.sets.step_append.Goals as goal
 
-pub returns-in_err-append-clause-words : goal.returns-in_err-append-clause-words
+pub returns-in_err-append_old-clause-words : goal.returns-in_err-append_old-clause-words
 unfolding step_at plan_at appends_entry
-returns-in_err-append-clause-words c = rw (← c.counted-row.ensures) (goes_err _ _ _ _ _ c.append.result c.append.ensures.words c.in_err-append.field-0.0 (search rules) _ (search rules) _ _)
+returns-in_err-append_old-clause-words c = rw (← c.counted-row.ensures) (goes_err _ _ _ _ _ c.append_old.result c.append_old.ensures.words c.in_err-append_old.field-0.0 (search rules) _ (search rules) _ _)
