@@ -4,7 +4,7 @@ use Rattle.client.specs.declared.Refused.{Refused}
 use Rattle.client.specs.declared.Said.{Said}
 use Rattle.client.specs.declared.Said.TheVariants.{Nothing, Handed, Made, Read}
 
--- an answer's words before the call: no zeros, so that one which a call leaves is not read as its answer
+-- an answer's words before the call: one that the call leaves does not pass for a 0
 abbrev pub no_words : List ℕ
 no_words = replicate 16 4294967295
 

@@ -27,7 +27,7 @@ impl fmt::Display for Refused {
     }
 }
 
-// What stands in an answer's words before the call: a word that the call leaves shows in what a program prints.
+// What stands in an answer's words before the call: a word that the call leaves does not pass for a 0.
 const UNWRITTEN: u32 = 4294967295;
 
 /// Makes a call with room for its answer.

@@ -5,7 +5,7 @@ use Rattle.client.specs.declared.Said.TheVariants as said
 use Rattle.orders.specs.declared.model.Order.{Order}
 use Rattle.orders.specs.declared.model.Order.TheVariants as order
 
--- a new and a set end in a handle
+-- a new and a set reserve a slot, and end in a handle
 abbrev pub reserves : Order → Bool
 reserves (order.New v) = true
 reserves (order.Get h i) = false

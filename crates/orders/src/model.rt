@@ -105,7 +105,7 @@ impl Order {
                 handle,
                 cell,
                 count,
-            } if count > 1 => Some(Order::Page {
+            } if self.goes_on() => Some(Order::Page {
                 handle,
                 cell: cell.checked_add(1)?,
                 count: count - 1,
