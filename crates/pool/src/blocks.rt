@@ -82,6 +82,7 @@ impl Pool<'_> {
 
     /// An entry of that log.
     #[tactic(auto, unfolding(layout::specs::Pool::entry_seen, layout::specs::Parts::part, layout::specs::Parts::splice), using(layout::specs::Lends::looks))]
+    #[inline(always)]
     pub fn entry(self, block: u32, cell: u32, index: u32) -> Result<Entry, Damaged>
         ensures { result ≡ entry_seen self.entry.words.now self.entry.sizes block cell index }
     {
